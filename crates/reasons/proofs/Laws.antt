@@ -1,0 +1,107 @@
+-- The laws of `demand` and of the numbers, which every rule uses. Assumes nothing.
+use mathlib.Core.Path.{_≡_, refl, sym, ap, _∙_}
+use mathlib.Core.Bool.{Bool, true, false}
+use mathlib.Core.Logic.{_⊎_, _↔_, inl, inr, ⊎-elim}
+use Prim.Native.Nat.{ℕ}
+use native.Mathlib.Omega.{arith}
+use mathlib.Core.List.{[], _∷_}
+use lib.ListN.{getD}
+use Rattle.reasons.specs.Reasons.{numberOf, Outcome, gives, refuses, demand, after, andThen, said}
+use Rattle.reasons.specs.declared.Tested.{Tested}
+use Rattle.reasons.specs.declared.Tested.the-variants.{Passes, Refused}
+use Rattle.reasons.specs.declared.Reason.{Reason}
+use Rattle.reasons.specs.declared.Reason.the-variants.{ShortOutput, BadCount, BadByte, WrongCheck, UnknownCountry, WrongLayout, BadBitCount, NoStart, CutShort, WrongParity, LongTrack, WrongLrc, MarksAfter, BadTable, NoRange, BadJournal, ZeroAmount, JournalFull, SerialsUsedUp, NoSerial}
+
+-- a value is not a refusal
+pub gives-refuses : {A B : Type 0} (v : A) (n : ℕ) → _≡_ {A = Outcome A} (gives v) (refuses n) → B
+gives-refuses v n e = let z : _≡_ {A = ℕ} 0 1 = cc in absurd (omega arith)
+
+module _ {A : Type 0} (t : Bool) (n : ℕ) (o : Outcome A) where
+  -- "Each is given exactly when its condition is the first to hold": an answer is given exactly when no condition holds,
+  pub passed : (v : A) → demand t n o ≡ gives v → (t ≡ true) × (o ≡ gives v)
+  passed v e = by t e
+    where
+      by : (b : Bool) → demand b n o ≡ gives v → (b ≡ true) × (o ≡ gives v)
+      by true e = (refl, e)
+      by false e = gives-refuses v n (sym e)
+
+  pub passes-on : t ≡ true → demand t n o ≡ o
+  passes-on h = ap (λ (b : Bool). demand b n o) h
+
+  -- and a refusal exactly where its condition holds here, or, this one not, further on
+  pub stopped : (m : ℕ) → demand t n o ≡ refuses m → ((t ≡ false) × (m ≡ n)) ⊎ ((t ≡ true) × (o ≡ refuses m))
+  stopped m e = by t e
+    where
+      by : (b : Bool) → demand b n o ≡ refuses m → ((b ≡ false) × (m ≡ n)) ⊎ ((b ≡ true) × (o ≡ refuses m))
+      by true e = inr (refl, e)
+      by false e = inl (refl, cc)
+
+  pub stops : t ≡ false → demand t n o ≡ refuses n
+  stops h = ap (λ (b : Bool). demand b n o) h
+
+  -- both ways round, in one statement each
+  pub gives-exactly : (v : A) → (demand t n o ≡ gives v) ↔ ((t ≡ true) × (o ≡ gives v))
+  gives-exactly v = (passed v, λ h. passes-on (h .0) ∙ h .1)
+
+  pub refuses-exactly : (m : ℕ) → (demand t n o ≡ refuses m) ↔ (((t ≡ false) × (m ≡ n)) ⊎ ((t ≡ true) × (o ≡ refuses m)))
+  refuses-exactly m = (stopped m, ⊎-elim (λ h. stops (h .0) ∙ ap {B = Outcome A} refuses (sym (h .1))) (λ h. passes-on (h .0) ∙ h .1))
+
+-- the reason of a number
+reasonOf : ℕ → Reason
+reasonOf n =
+    getD
+    (ShortOutput ∷ ShortOutput ∷ BadCount ∷ BadByte ∷ WrongCheck ∷ UnknownCountry ∷ WrongLayout ∷ BadBitCount ∷ NoStart ∷ CutShort ∷ WrongParity
+    ∷ LongTrack ∷ WrongLrc ∷ MarksAfter ∷ BadTable ∷ NoRange ∷ BadJournal ∷ ZeroAmount ∷ JournalFull ∷ SerialsUsedUp ∷ NoSerial ∷ [])
+    n ShortOutput
+
+back : (r : Reason) → reasonOf (numberOf r) ≡ r
+unfolding reasonOf
+back ShortOutput = refl
+back BadCount = refl
+back BadByte = refl
+back WrongCheck = refl
+back UnknownCountry = refl
+back WrongLayout = refl
+back BadBitCount = refl
+back NoStart = refl
+back CutShort = refl
+back WrongParity = refl
+back LongTrack = refl
+back WrongLrc = refl
+back MarksAfter = refl
+back BadTable = refl
+back NoRange = refl
+back BadJournal = refl
+back ZeroAmount = refl
+back JournalFull = refl
+back SerialsUsedUp = refl
+back NoSerial = refl
+
+-- equal numbers, equal reasons
+pub numberOf-one : (r q : Reason) → numberOf r ≡ numberOf q → r ≡ q
+numberOf-one r q e = sym (back r) ∙ ap reasonOf e ∙ back q
+
+-- equal refusals, equal reasons
+pub refuses-one : {A : Type 0} (a b : Reason) → _≡_ {A = Outcome A} (refuses (numberOf a)) (refuses (numberOf b)) → a ≡ b
+refuses-one a b e = let n : numberOf a ≡ numberOf b = cc in numberOf-one a b n
+
+-- what is said tells the answer
+pub said-one : (r q : Tested) → said r ≡ said q → r ≡ q
+said-one Passes Passes e = refl
+said-one Passes (Refused b) e = gives-refuses tt (numberOf b) e
+said-one (Refused a) Passes e = gives-refuses tt (numberOf a) (sym e)
+said-one (Refused a) (Refused b) e = ap Refused (refuses-one a b e)
+
+-- what is not given is refused, with some number
+pub refused : (o : Outcome (Unit {0})) → (o ≡ gives tt → ⊥) → (n : ℕ) × (o ≡ refuses n)
+refused (gives tt) h = absurd (h refl)
+refused (refuses n) h = (n, refl)
+
+-- "A refusal ... changes no lent byte"
+pub after-refusal : {A B : Type 0} (o : Outcome A) (old : B) (new : A → B) (n : ℕ) → o ≡ refuses n → after o old new ≡ old
+after-refusal o old new n e = ap (λ (p : Outcome _). after p old new) e
+
+-- a call that goes on with another's value gives one exactly where the other did, and it did with that
+pub went-on : {A B : Type 0} (o : Outcome A) (f : A → Outcome B) (w : B) → andThen o f ≡ gives w → (v : A) × (o ≡ gives v) × (f v ≡ gives w)
+went-on (gives v) f w e = (v, refl, e)
+went-on (refuses n) f w e = gives-refuses w n (sym e)
