@@ -1,0 +1,93 @@
+// The Luhn check digit (ISO/IEC 7812-1): testing a text, and making the digit for a body.
+use reasons::Reason;
+use reasons::Tested;
+ghost use mathlib.Core.Path.{_≡_};
+ghost use Prim.Native.Nat.{_≤_};
+ghost use lib.ListN.{length};
+ghost use Rattle.reasons.specs.Reasons.{said};
+ghost use Rattle.luhn.specs.Luhn.{weighed, saidMade, luhnRule, makeRule};
+ghost use Rattle.luhn.specs.Sum.{saidSum, sumRule};
+
+// What making answers: the check digit's byte, or why there is none.
+pub enum Made {
+    Digit(u8),
+    Refused(Reason),
+}
+
+// The sum of a text of digits, or that a byte of it is none.
+enum Summed {
+    Sum(u32),
+    NotDigits,
+}
+
+// What a digit adds to the sum.
+fn weigh(twice: bool, d: u32) -> u32
+    requires { ⌜ d ≤ 9 ⌝ }
+    ensures { λ r. ⌜ r ≡ weighed twice d ⌝ }
+{
+    if twice {
+        if d <= 4 { 2 * d } else { 2 * d - 9 }
+    } else {
+        d
+    }
+}
+
+// The sum of a text of at most 40 digits, from the right. `double` says whether the last digit is doubled.
+fn sum(text: &[u8], double: bool) -> Summed
+    requires { ⌜ length (now text) ≤ 40 ⌝ }
+    ensures { λ r. ⌜ saidSum r ≡ sumRule double (now (text .entry)) ⌝ }
+{
+    let mut total: u32 = 0;
+    let mut twice = double;
+    let mut i = text.len();
+    while 0 < i {
+        i -= 1;
+        let b = text[i];
+        if !text::is_digit(b) {
+            return Summed::NotDigits;
+        }
+        total += weigh(twice, (b - 48) as u32);
+        twice = !twice;
+    }
+    Summed::Sum(total)
+}
+
+// Whether a text of 2 to 40 digits passes.
+pub fn test(text: &[u8]) -> Tested
+    ensures { λ r. ⌜ said r ≡ luhnRule (now (text .entry)) ⌝ }
+{
+    let n = text.len();
+    if n < 2 {
+        return Tested::Refused(Reason::BadCount);
+    }
+    if 40 < n {
+        return Tested::Refused(Reason::BadCount);
+    }
+    match sum(text, false) {
+        Summed::NotDigits => Tested::Refused(Reason::BadByte),
+        Summed::Sum(s) => {
+            if s % 10 == 0 {
+                Tested::Passes
+            } else {
+                Tested::Refused(Reason::WrongCheck)
+            }
+        }
+    }
+}
+
+// The byte of the digit that, put at the end of a body of 1 to 39 digits, makes it pass.
+pub fn make(body: &[u8]) -> Made
+    ensures { λ r. ⌜ saidMade r ≡ makeRule (now (body .entry)) ⌝ }
+{
+    let n = body.len();
+    if n < 1 {
+        return Made::Refused(Reason::BadCount);
+    }
+    if 39 < n {
+        return Made::Refused(Reason::BadCount);
+    }
+    match sum(body, true) {
+        Summed::NotDigits => Made::Refused(Reason::BadByte),
+        Summed::Sum(s) => Made::Digit((48 + (10 - s % 10) % 10) as u8),
+    }
+}
