@@ -1,0 +1,85 @@
+-- The masked text byte by byte, and the outcomes of masking. Assumes nothing.
+use Prim.Native.Nat.{ℕ, _+_, _-_, _≤_, _<_}
+use mathlib.Core.Path.{_≡_, ap, _∙_}
+use mathlib.Core.Bool.{true, false}
+use mathlib.Core.List.{List, _++_}
+use native.Mathlib.Omega.{arith}
+use borrow.Author.Tests.{le-leb, lt-leb}
+use lib.ListN.{length, getD, length-append, length-drop, length-replicate, getD-replicate, List·getD-append}
+use lib.Seq.{length-take-le, getD-take, getD-drop, getD-append-add}
+use Rattle.text.specs.Bytes.{allDigits}
+use Rattle.text.specs.Numbers.{put}
+use Rattle.text.proofs.Tests.{inside-is}
+use Rattle.reasons.specs.declared.Tested.the-variants.{Passes, Refused}
+use Rattle.reasons.specs.declared.Reason.the-variants.{ShortOutput, BadCount, BadByte}
+use Rattle.pan.specs.Pan.{panLength, frontShown, backShown, front, back, stars, masked, maskRule, maskBytes, Masks}
+
+-- what is shown of a PAN is not more than the whole of it
+pub shown-fits : (n : ℕ) → panLength n ≡ true → frontShown n + backShown n ≤ n
+unfolding frontShown backShown
+shown-fits n h = let w = inside-is 13 19 n h in omega arith
+
+stars-length : (n : ℕ) → length (stars n) ≡ n - frontShown n - backShown n
+stars-length n = length-replicate {A = ℕ} (n - frontShown n - backShown n) 42
+
+module _ (pan : List ℕ) (h : panLength (length pan) ≡ true) where
+  pub front-length : length (front pan) ≡ frontShown (length pan)
+  front-length = length-take-le (frontShown (length pan)) pan (omega (arith, shown-fits (length pan) h))
+
+  pub head-length : length (front pan ++ stars (length pan)) ≡ length pan - backShown (length pan)
+  head-length =
+      length-append (front pan) (stars (length pan))
+      ∙ omega (arith, front-length, stars-length (length pan), shown-fits (length pan) h)
+
+  pub masked-length : length (masked pan) ≡ length pan
+  unfolding masked
+  masked-length =
+      length-append (front pan ++ stars (length pan)) (back pan)
+      ∙ omega (arith, head-length, length-drop (length pan - backShown (length pan)) pan, shown-fits (length pan) h)
+
+  pub at-front : (i : ℕ) → i < frontShown (length pan) → getD (masked pan) i 0 ≡ getD pan i 0
+  unfolding masked
+  at-front i l =
+      List·getD-append (front pan ++ stars (length pan)) (back pan) 0 i (omega (arith, head-length, shown-fits (length pan) h))
+      ∙ List·getD-append (front pan) (stars (length pan)) 0 i (omega (arith, front-length))
+      ∙ getD-take (frontShown (length pan)) pan i 0 l
+
+  pub at-hidden : (i : ℕ) → frontShown (length pan) ≤ i → i < length pan - backShown (length pan) → getD (masked pan) i 0 ≡ 42
+  unfolding masked
+  at-hidden i l g =
+      let e : i ≡ length (front pan) + (i - frontShown (length pan)) = omega (arith, front-length) in
+      List·getD-append (front pan ++ stars (length pan)) (back pan) 0 i (omega (arith, head-length))
+      ∙ ap (λ (k : ℕ). getD (front pan ++ stars (length pan)) k 0) e
+      ∙ getD-append-add (front pan) (stars (length pan)) (i - frontShown (length pan)) 0
+      ∙ getD-replicate (length pan - frontShown (length pan) - backShown (length pan)) (i - frontShown (length pan)) 42 0 (omega arith)
+
+  pub at-back : (i : ℕ) → length pan - backShown (length pan) ≤ i → getD (masked pan) i 0 ≡ getD pan i 0
+  unfolding masked
+  at-back i l =
+      let k = i - (length pan - backShown (length pan)) in
+      let e : i ≡ length (front pan ++ stars (length pan)) + k = omega (arith, head-length) in
+      let f : length pan - backShown (length pan) + k ≡ i = omega arith in
+      ap (λ (m : ℕ). getD (front pan ++ stars (length pan) ++ back pan) m 0) e
+      ∙ getD-append-add (front pan ++ stars (length pan)) (back pan) k 0
+      ∙ getD-drop (length pan - backShown (length pan)) pan k 0
+      ∙ ap (λ (m : ℕ). getD pan m 0) f
+
+-- masking, test by test
+module _ (pan out : List ℕ) where
+  pub bad-count : panLength (length pan) ≡ false → Masks pan out (Refused BadCount) out
+  unfolding maskRule maskBytes
+  bad-count a = (simp a, simp a)
+
+  module _ (a : panLength (length pan) ≡ true) where
+    pub bad-byte : allDigits pan ≡ false → Masks pan out (Refused BadByte) out
+    unfolding maskRule maskBytes
+    bad-byte b = (simp (a, b), simp (a, b))
+
+    module _ (b : allDigits pan ≡ true) where
+      pub short-output : length out < length pan → Masks pan out (Refused ShortOutput) out
+      unfolding maskRule maskBytes
+      short-output l = let t = lt-leb _ _ l in (simp (a, b, t), simp (a, b, t))
+
+      pub passes : length pan ≤ length out → Masks pan out Passes (put out 0 (masked pan))
+      unfolding maskRule maskBytes
+      passes l = let t = le-leb _ _ l in (simp (a, b, t), simp (a, b, t))

@@ -1,0 +1,4 @@
+pub mod Steps
+pub mod First
+pub mod Inside
+pub mod Laws
