@@ -1,0 +1,3 @@
+pub mod Countries
+pub mod Stored
+pub mod Iban
