@@ -1,0 +1,11 @@
+pub mod Streams
+pub mod Walks
+pub mod Chars
+pub mod Bodies
+pub mod Starts
+pub mod Rules
+pub mod Flips
+pub mod FlipBytes
+pub mod Lengths
+pub mod Laws
+pub mod Seven

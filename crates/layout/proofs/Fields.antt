@@ -1,0 +1,112 @@
+-- The fields one by one: what the functions find is what the definitions say. Assumes nothing.
+use Prim.Native.Nat.{ℕ, _+_, _-_, _*_, _≤_, _<_}
+use mathlib.Core.Path.{_≡_, sym, ap, _∙_}
+use mathlib.Core.Bool.{Bool, true, false}
+use mathlib.Core.List.{List, []}
+use native.Mathlib.Omega.{arith}
+use native.Mathlib.Numerals.{add-one}
+use lib.ListN.{length, getD, take, drop, drop-of-length-le, length-drop}
+use lib.Seq.{drop-cons, take-all, take-nil}
+use borrow.Author.Tests.{eq-eqb, ne-eqb}
+use Rattle.text.specs.Bytes.{within, isDigit, allDigits}
+use Rattle.text.specs.Numbers.{decimal}
+use Rattle.text.proofs.Tests.{under, over, inside}
+use Rattle.text.proofs.Numbers.{decimal-turn, decimal-end}
+use Rattle.reasons.specs.Reasons.{gives, refuses, demand, andThen}
+use Rattle.layout.specs.Layout.{isExpiry, isService, lead, fieldRule, past, Places, restRule, serviceRule, expiryRule, layoutRule, dueSaid}
+use Rattle.layout.specs.declared.Field.{Field}
+use Rattle.layout.specs.declared.Field.the-variants.{Absent, At}
+use Rattle.layout.specs.declared.Due.{Due}
+
+-- a piece that goes past the end, and one that starts there
+pub piece-none : (s : List ℕ) (at n : ℕ) → length s ≤ at → [] ≡ take n (drop at s)
+piece-none s at n h = sym (ap (take n) (drop-of-length-le s h) ∙ take-nil n)
+
+pub piece-short : (s : List ℕ) (at n : ℕ) → length s - at ≤ n → take (length s - at) (drop at s) ≡ take n (drop at s)
+piece-short s at n h =
+    take-all (length s - at) (drop at s) (rw length-drop (omega arith)) ∙ sym (take-all n (drop at s) (rw length-drop h))
+
+-- digits from the left
+module _ (s : List ℕ) (i : ℕ) where
+  pub lead-stop : i < length s → isDigit (getD s i 0) ≡ false → lead (drop i s) ≡ 0
+  unfolding lead
+  lead-stop h e = rw (drop-cons s i 0) (simp e)
+
+  pub lead-more : i < length s → isDigit (getD s i 0) ≡ true → lead (drop i s) ≡ lead (drop (i + 1) s) + 1
+  unfolding lead
+  lead-more h e = rw (drop-cons s i 0) (simp (e, add-one))
+
+  pub lead-end : length s ≤ i → lead (drop i s) ≡ 0
+  unfolding lead
+  lead-end h = rw (drop-of-length-le s h)
+
+-- an expiry and a service code, test by test
+module _ (t : List ℕ) where
+  pub expiry-size : (length t ≡ 4 → ⊥) → false ≡ isExpiry t
+  unfolding isExpiry
+  expiry-size h = rw (ne-eqb (length t) 4 h)
+
+  module _ (h : length t ≡ 4) where
+    pub expiry-digits : allDigits t ≡ false → false ≡ isExpiry t
+    unfolding isExpiry
+    expiry-digits d = rw (eq-eqb (length t) 4 h, d)
+
+    month-is : decimal (drop 2 t) ≡ 10 * (getD t 2 0 - 48) + (getD t 3 0 - 48)
+    month-is =
+        decimal-turn t 0 2 (omega arith) ∙ decimal-turn t (10 * 0 + (getD t 2 0 - 48)) 3 (omega arith)
+        ∙ decimal-end t (10 * (10 * 0 + (getD t 2 0 - 48)) + (getD t 3 0 - 48)) 4 (omega arith) ∙ omega arith
+
+    pub expiry-month : allDigits t ≡ true → (m : ℕ) (b : Bool) → m ≡ 10 * (getD t 2 0 - 48) + (getD t 3 0 - 48) → within 1 12 m ≡ b → b ≡ isExpiry t
+    unfolding isExpiry
+    expiry-month d m b e w = rw (eq-eqb (length t) 4 h, d, month-is, ← e) (sym w)
+
+  pub service-size : (length t ≡ 3 → ⊥) → false ≡ isService t
+  unfolding isService
+  service-size h = rw (ne-eqb (length t) 3 h)
+
+  pub service-digits : length t ≡ 3 → allDigits t ≡ isService t
+  unfolding isService
+  service-digits h = rw (eq-eqb (length t) 3 h)
+
+-- what is due at a place
+module _ (test : List ℕ → Bool) (n : ℕ) (s : List ℕ) (q : ℕ) where
+  pub field-missing : getD s q 0 ≡ 61 → gives Absent ≡ fieldRule test n s q
+  unfolding fieldRule
+  field-missing e = rw (eq-eqb (getD s q 0) 61 e)
+
+  pub field-there : (getD s q 0 ≡ 61 → ⊥) → (b : Bool) → test (take n (drop q s)) ≡ b → demand b 6 (gives (At q)) ≡ fieldRule test n s q
+  unfolding fieldRule
+  field-there e b t = rw (ne-eqb (getD s q 0) 61 e, t)
+
+-- the division, from its end back to its start
+pub rest-tested : (s : List ℕ) (d : Places) (b : Bool) → allDigits (take (length s) (drop (d .rest) s)) ≡ b → demand b 6 (gives d) ≡ restRule s d
+unfolding restRule
+rest-tested s d b e = rw (← take-all (length s) (drop (d .rest) s) (rw length-drop (omega arith)), e)
+
+pub service-next : (s : List ℕ) (p : ℕ) (e : Field) (q : ℕ) (v : Due) → dueSaid q v ≡ fieldRule isService 3 s q
+    → andThen (dueSaid q v) (λ f. restRule s (record { pan = p; expiry = e; service = f; rest = past 3 q f })) ≡ serviceRule s p e q
+unfolding serviceRule
+service-next s p e q v h = rw h
+
+pub expiry-next : (s : List ℕ) (p : ℕ) (v : Due) → dueSaid (p + 1) v ≡ fieldRule isExpiry 4 s (p + 1)
+    → andThen (dueSaid (p + 1) v) (λ f. serviceRule s p f (past 4 (p + 1) f)) ≡ expiryRule s p
+unfolding expiryRule
+expiry-next s p v h = rw h
+
+module _ (s : List ℕ) (p : ℕ) (is-lead : p ≡ lead s) where
+  pub few : p < 13 → refuses 6 ≡ layoutRule s
+  unfolding layoutRule
+  few h = rw (← is-lead, under 13 19 p h)
+
+  pub many : 19 < p → refuses 6 ≡ layoutRule s
+  unfolding layoutRule
+  many h = rw (← is-lead, over 13 19 p h)
+
+  module _ (h : 13 ≤ p) (l : p ≤ 19) where
+    pub unmarked : (getD s p 0 ≡ 61 → ⊥) → refuses 6 ≡ layoutRule s
+    unfolding layoutRule
+    unmarked e = rw (← is-lead, inside 13 19 p h l, ne-eqb (getD s p 0) 61 e)
+
+    pub marked : getD s p 0 ≡ 61 → expiryRule s p ≡ layoutRule s
+    unfolding layoutRule
+    marked e = rw (← is-lead, inside 13 19 p h l, eq-eqb (getD s p 0) 61 e)

@@ -1,0 +1,215 @@
+-- The laws of the layout: what is accepted has the form, what has the form is accepted, and its division is the only one. Assumes nothing.
+use Prim.Native.Nat.{ℕ, _+_, _-_, _≤_, _<_}
+use mathlib.Core.Path.{_≡_, refl, sym, ap, ap₂, _∙_, subst}
+use mathlib.Core.Bool.{Bool, true, _&&_}
+use mathlib.Core.List.{List, _∷_, _++_}
+use native.Mathlib.Omega.{arith}
+use native.Mathlib.Numerals.{add-one}
+use lib.ListN.{length, getD, take, drop, take-append-drop, length-append, length-take, length-drop}
+use lib.Seq.{drop-cons, drop-drop, take-at, drop-append-add, take-append-seam, drop-append-seam, length-take-le}
+use borrow.Author.Tests.{eqb-true, eq-eqb}
+use denote.Ref.{RefT}
+use Rattle.text.specs.Bytes.{isDigit, allDigits}
+use Rattle.text.proofs.Tests.{inside-is, both-true}
+use Rattle.text.proofs.Parts.{Same, part-one}
+use Rattle.reasons.specs.Reasons.{numberOf, numberIn, gives}
+use Rattle.reasons.proofs.Laws.{gives-refuses, refuses-one, passed, went-on}
+use Rattle.pan.specs.Pan.{panLength}
+use Rattle.layout.specs.Layout.{isExpiry, isService, lead, equalsAt, fieldRule, past, Places, restRule, serviceRule, expiryRule, layoutRule, said, CutOf, fieldCut, panCut, expiryCut, serviceCut, restCut}
+use Rattle.layout.specs.Grammar.{Optional, absent, present, written, Passes, Pieces, textOf, Formed, placed, placesOf, fieldIn, piecesAt}
+use Rattle.layout.specs.declared.Field.{Field}
+use Rattle.layout.specs.declared.Field.the-variants.{Absent, At}
+use Rattle.layout.specs.declared.Division.{Division}
+use Rattle.layout.specs.declared.Division.the-variants.{Fields, Refused}
+use Rattle.layout.proofs.Forms.{present-byte, front-byte, lead-is, lead-digits, Digits, expiry-is, service-is, field-found, past-written, Written, field-written}
+
+-- pieces, and places, with the same parts are the same
+same-pieces : {a a′ r r′ : List ℕ} {e e′ v v′ : Optional} → a ≡ a′ → e ≡ e′ → v ≡ v′ → r ≡ r′
+    → _≡_ {A = Pieces} (record { pan = a; expiry = e; service = v; discretionary = r }) (record { pan = a′; expiry = e′; service = v′; discretionary = r′ })
+same-pieces {a} {a′} {r} {r′} {e} {e′} {v} {v′} h i j k =
+    ap₂ (λ (x : List ℕ) (y : Optional). record { pan = x; expiry = y; service = v; discretionary = r }) h i
+    ∙ ap₂ (λ (x : Optional) (y : List ℕ). record { pan = a′; expiry = e′; service = x; discretionary = y }) j k
+
+same-places : {a a′ r r′ : ℕ} {e e′ v v′ : Field} → a ≡ a′ → e ≡ e′ → v ≡ v′ → r ≡ r′
+    → _≡_ {A = Places} (record { pan = a; expiry = e; service = v; rest = r }) (record { pan = a′; expiry = e′; service = v′; rest = r′ })
+same-places {a} {a′} {r} {r′} {e} {e′} {v} {v′} h i j k =
+    ap₂ (λ (x : ℕ) (y : Field). record { pan = x; expiry = y; service = v; rest = r }) h i
+    ∙ ap₂ (λ (x : Field) (y : ℕ). record { pan = a′; expiry = e′; service = x; rest = y }) j k
+
+-- the text of pieces, from each place on
+module _ (g : Pieces) where
+  from-expiry : drop (length (g .pan) + 1) (textOf g) ≡ written (g .expiry) ++ (written (g .service) ++ g .discretionary)
+  from-expiry = drop-append-add (g .pan) (61 ∷ (written (g .expiry) ++ (written (g .service) ++ g .discretionary))) 1
+
+  from-service : drop (length (g .pan) + 1 + length (written (g .expiry))) (textOf g) ≡ written (g .service) ++ g .discretionary
+  from-service =
+      sym (drop-drop (length (written (g .expiry))) (length (g .pan) + 1) (textOf g)) ∙ ap (drop (length (written (g .expiry)))) from-expiry
+      ∙ drop-append-seam (written (g .expiry)) (written (g .service) ++ g .discretionary)
+
+  from-rest : drop (length (g .pan) + 1 + length (written (g .expiry)) + length (written (g .service))) (textOf g) ≡ g .discretionary
+  from-rest =
+      sym (drop-drop (length (written (g .service))) (length (g .pan) + 1 + length (written (g .expiry))) (textOf g))
+      ∙ ap (drop (length (written (g .service)))) from-service ∙ drop-append-seam (written (g .service)) (g .discretionary)
+
+  at-equals : getD (textOf g) (length (g .pan)) 0 ≡ 61
+  at-equals = front-byte (textOf g) (length (g .pan)) (61 ∷ (written (g .expiry) ++ (written (g .service) ++ g .discretionary)))
+      (drop-append-seam (g .pan) (61 ∷ (written (g .expiry) ++ (written (g .service) ++ g .discretionary))))
+
+  -- "A text is accepted exactly when it has this form": what has it is accepted, and divided into its pieces
+  pub form-accepted : Formed g → layoutRule (textOf g) ≡ gives (placesOf g)
+  unfolding layoutRule expiryRule serviceRule restRule isDigit
+  form-accepted ok =
+      let p : lead (textOf g) ≡ length (g .pan) = lead-is (g .pan) 61 _ (ok .pan-digits) refl in
+      let e = field-found 4 isExpiry expiry-is (textOf g) (length (g .pan) + 1) (g .expiry) _ from-expiry (ok .expiry-right) in
+      let pe = past-written 4 isExpiry expiry-is (textOf g) (length (g .pan) + 1) (g .expiry) (ok .expiry-right) in
+      let v = field-found 3 isService service-is (textOf g) (length (g .pan) + 1 + length (written (g .expiry))) (g .service) _ from-service (ok .service-right) in
+      let pv = past-written 3 isService service-is (textOf g) (length (g .pan) + 1 + length (written (g .expiry))) (g .service) (ok .service-right) in
+      rw (p, ok .pan-length, eq-eqb (getD (textOf g) (length (g .pan)) 0) 61 at-equals, e, pe, v, pv, from-rest, ok .rest-digits)
+
+  -- its pieces are read off again
+  again : (n : ℕ) (test : List ℕ → Bool) → Digits n test → (q : ℕ) (o : Optional) (y : List ℕ) → drop q (textOf g) ≡ written o ++ y → Passes test o
+      → fieldIn n (textOf g) (placed q o) ≡ o
+  again n test k q absent y e h = refl
+  again n test k q (present t) y e h = ap present (ap (take n) e ∙ take-at t y n (k .size t h))
+
+  pub pieces-again : Formed g → piecesAt (textOf g) (placesOf g) ≡ g
+  pieces-again ok =
+      same-pieces (take-append-seam (g .pan) (61 ∷ (written (g .expiry) ++ (written (g .service) ++ g .discretionary))))
+      (again 4 isExpiry expiry-is (length (g .pan) + 1) (g .expiry) _ from-expiry (ok .expiry-right))
+      (again 3 isService service-is (length (g .pan) + 1 + length (written (g .expiry))) (g .service) _ from-service (ok .service-right))
+      from-rest
+
+-- "its division is the only one": two divisions of one text are the same
+pub only-division : (g h : Pieces) → Formed g → Formed h → textOf g ≡ textOf h → g ≡ h
+only-division g h a b e =
+    let d : gives (placesOf g) ≡ gives (placesOf h) = sym (form-accepted g a) ∙ ap layoutRule e ∙ form-accepted h b in
+    let z : placesOf g ≡ placesOf h = cc in
+    sym (pieces-again g a) ∙ ap₂ piecesAt e z ∙ pieces-again h b
+
+-- these places divide the text: what stands there is formed, makes up the text, and stands there
+pub record Divides (s : List ℕ) (d : Places) : Type 0 where
+  pub formed : Formed (piecesAt s d)
+  pub text : textOf (piecesAt s d) ≡ s
+  pub places : placesOf (piecesAt s d) ≡ d
+
+-- and what is accepted has the form
+module _ (s : List ℕ) (p : ℕ) (e v : Field) (long : panLength p ≡ true) (digits : allDigits (take p s) ≡ true) (equals : getD s p 0 ≡ 61)
+    (we : Written 4 isExpiry expiry-is s (p + 1) e) (wv : Written 3 isService service-is s (past 4 (p + 1) e) v)
+    (rest : allDigits (drop (past 3 (past 4 (p + 1) e) v) s) ≡ true) where
+  abbrev found : Places
+  found = record { pan = p; expiry = e; service = v; rest = past 3 (past 4 (p + 1) e) v }
+
+  within : p < length s
+  within = present-byte s p (omega arith)
+
+  pan-size : length (take p s) ≡ p
+  pan-size = length-take-le p s (omega (arith, within))
+
+  expiry-end : past 4 (p + 1) e ≡ p + 1 + length (written (fieldIn 4 s e))
+  expiry-end = ap (past 4 (p + 1)) (sym (we .place)) ∙ past-written 4 isExpiry expiry-is s (p + 1) (fieldIn 4 s e) (we .right)
+
+  service-end : past 3 (past 4 (p + 1) e) v ≡ past 4 (p + 1) e + length (written (fieldIn 3 s v))
+  service-end = ap (past 3 (past 4 (p + 1) e)) (sym (wv .place)) ∙ past-written 3 isService service-is s (past 4 (p + 1) e) (fieldIn 3 s v) (wv .right)
+
+  divides : Divides s found
+  divides = record {
+    formed = record { pan-length = rw pan-size long; pan-digits = digits; expiry-right = we .right; service-right = wv .right; rest-digits = rest };
+    text =
+        ap (λ (l : List ℕ). take p s ++ l)
+        (ap (λ (l : List ℕ). 61 ∷ (written (fieldIn 4 s e) ++ l)) (sym (wv .text)) ∙ ap (λ (l : List ℕ). 61 ∷ l) (sym (we .text))
+        ∙ sym (drop-cons s p 0 within ∙ ap₂ (λ (b : ℕ) (l : List ℕ). b ∷ l) equals (ap (λ (m : ℕ). drop m s) (sym (add-one p)))))
+        ∙ take-append-drop p s;
+    places =
+        same-places pan-size
+        (ap (λ (m : ℕ). placed (m + 1) (fieldIn 4 s e)) pan-size ∙ we .place)
+        (ap (λ (m : ℕ). placed m (fieldIn 3 s v)) (ap (λ (m : ℕ). m + 1 + length (written (fieldIn 4 s e))) pan-size ∙ sym expiry-end) ∙ wv .place)
+        (ap (λ (m : ℕ). m + length (written (fieldIn 3 s v))) (ap (λ (m : ℕ). m + 1 + length (written (fieldIn 4 s e))) pan-size ∙ sym expiry-end) ∙ sym service-end);
+  }
+
+pub accepted-form : (s : List ℕ) (d : Places) → layoutRule s ≡ gives d → Divides s d
+unfolding layoutRule expiryRule serviceRule restRule
+accepted-form s d accepted =
+    let start = passed (panLength (lead s) && equalsAt s (lead s)) 6 _ d accepted in
+    let pan = both-true (panLength (lead s)) (equalsAt s (lead s)) (start .0) in
+    let e = went-on (fieldRule isExpiry 4 s (lead s + 1)) _ d (start .1) in
+    let v = went-on (fieldRule isService 3 s (past 4 (lead s + 1) (e .0))) _ d (e .2) in
+    let r = passed (allDigits (drop (past 3 (past 4 (lead s + 1) (e .0)) (v .0)) s)) 6 _ d (v .2) in
+    let g : gives (record { pan = lead s; expiry = e .0; service = v .0; rest = past 3 (past 4 (lead s + 1) (e .0)) (v .0) }) ≡ gives d = r .1 in
+    let z : record { pan = lead s; expiry = e .0; service = v .0; rest = past 3 (past 4 (lead s + 1) (e .0)) (v .0) } ≡ d = cc in
+    subst (Divides s) z
+    (divides s (lead s) (e .0) (v .0) (pan .0) (lead-digits s) (eqb-true (getD s (lead s) 0) 61 (pan .1))
+    (field-written 4 isExpiry expiry-is s (lead s + 1) (e .0) (e .1)) (field-written 3 isService service-is s (past 4 (lead s + 1) (e .0)) (v .0) (v .1)) (r .0))
+
+-- so that the parts stand within it
+module _ (s : List ℕ) (d : Places) (accepted : layoutRule s ≡ gives d) where
+  pub pan-fits : d .pan ≤ length s
+  pan-fits = omega (arith, length-take (d .pan) s, ap (λ (x : Places). x .pan) (accepted-form s d accepted .places))
+
+  pub rest-fits : d .rest ≤ length s
+  rest-fits =
+      let g = piecesAt s d in
+      let a = accepted-form s d accepted in
+      omega (arith, ap (λ (x : Places). x .rest) (a .places), simp length-append at (ap length (a .text)))
+
+  field-fits : (n : ℕ) (test : List ℕ → Bool) → Digits n test → (f : Field) → Passes test (fieldIn n s f) → fieldCut n f .start + fieldCut n f .size ≤ length s
+  field-fits n test k Absent h = omega arith
+  field-fits n test k (At q) h = omega (arith, k .some, simp (length-take, length-drop) at (k .size (take n (drop q s)) h))
+
+  pub expiry-fits : fieldCut 4 (d .expiry) .start + fieldCut 4 (d .expiry) .size ≤ length s
+  expiry-fits = field-fits 4 isExpiry expiry-is (d .expiry) (accepted-form s d accepted .formed .expiry-right)
+
+  pub service-fits : fieldCut 3 (d .service) .start + fieldCut 3 (d .service) .size ≤ length s
+  service-fits = field-fits 3 isService service-is (d .service) (accepted-form s d accepted .formed .service-right)
+
+-- and near its front
+written-size : (n : ℕ) (test : List ℕ → Bool) → Digits n test → (o : Optional) → Passes test o → length (written o) ≤ n
+written-size n test k absent h = k .some
+written-size n test k (present t) h = omega (arith, k .size t h)
+
+placed-start : (n q : ℕ) (o : Optional) → fieldCut n (placed q o) .start ≤ q
+placed-start n q absent = omega arith
+placed-start n q (present t) = omega arith
+
+pub places-small : (s : List ℕ) (d : Places) → layoutRule s ≡ gives d
+    → (d .pan ≤ 19) × (fieldCut 4 (d .expiry) .start ≤ 20) × (fieldCut 3 (d .service) .start ≤ 24) × (d .rest ≤ 27)
+places-small s d accepted =
+    let a = accepted-form s d accepted in
+    let g = piecesAt s d in
+    let p : length (g .pan) ≤ 19 = inside-is 13 19 _ (a .formed .pan-length) .1 in
+    let e = written-size 4 isExpiry expiry-is (g .expiry) (a .formed .expiry-right) in
+    let v = written-size 3 isService service-is (g .service) (a .formed .service-right) in
+    subst (λ (x : Places). (x .pan ≤ 19) × (fieldCut 4 (x .expiry) .start ≤ 20) × (fieldCut 3 (x .service) .start ≤ 24) × (x .rest ≤ 27)) (a .places) (
+      p,
+      omega (arith, p, placed-start 4 (length (g .pan) + 1) (g .expiry)),
+      omega (arith, p, e, placed-start 3 (length (g .pan) + 1 + length (written (g .expiry))) (g .service)),
+      omega (arith, p, e, v),
+    )
+
+-- what is said tells the answer
+pub said-one : (r q : Division) → said r ≡ said q → r ≡ q
+said-one (Fields p e v r) (Fields p′ e′ v′ r′) h =
+    let z : _≡_ {A = Places} (record { pan = p; expiry = e; service = v; rest = r }) (record { pan = p′; expiry = e′; service = v′; rest = r′ }) = cc in
+    ap (λ (d : Places). Fields (d .pan) (d .expiry) (d .service) (d .rest)) z
+said-one (Fields p e v r) (Refused b) h = gives-refuses (record { pan = p; expiry = e; service = v; rest = r }) (numberOf b) h
+said-one (Refused a) (Fields p e v r) h = gives-refuses (record { pan = p; expiry = e; service = v; rest = r }) (numberOf a) (sym h)
+said-one (Refused a) (Refused b) h = ap Refused (refuses-one a b h)
+
+-- any two answers that the promise of a call allows are equal: of divide, of each part, its place and its bytes, and of the number
+pub divide-one : (s : List ℕ) (r q : Division) → said r ≡ layoutRule s → said q ≡ layoutRule s → r ≡ q
+divide-one s r q a b = said-one r q (a ∙ sym b)
+
+module _ (s r q : RefT (List ℕ)) where
+  pub pan-one : CutOf s (panCut (layoutRule (s .now))) r → CutOf s (panCut (layoutRule (s .now))) q → Same r q
+  pan-one = part-one s r q _ _
+
+  pub expiry-one : CutOf s (expiryCut (layoutRule (s .now))) r → CutOf s (expiryCut (layoutRule (s .now))) q → Same r q
+  expiry-one = part-one s r q _ _
+
+  pub service-one : CutOf s (serviceCut (layoutRule (s .now))) r → CutOf s (serviceCut (layoutRule (s .now))) q → Same r q
+  service-one = part-one s r q _ _
+
+  pub discretionary-one : CutOf s (restCut (length (s .now)) (layoutRule (s .now))) r → CutOf s (restCut (length (s .now)) (layoutRule (s .now))) q → Same r q
+  discretionary-one = part-one s r q _ _
+
+pub number-one : (s : List ℕ) (n m : ℕ) → n ≡ numberIn (layoutRule s) → m ≡ numberIn (layoutRule s) → n ≡ m
+number-one s n m f g = f ∙ sym g
