@@ -1,0 +1,12 @@
+pub mod Rule
+pub mod Walks
+pub mod Full
+pub mod Lists
+pub mod Freed
+pub mod Kept
+pub mod Calls
+pub mod Laws
+pub mod Surveys
+pub mod Cuts
+pub mod Radio
+pub mod Clocks

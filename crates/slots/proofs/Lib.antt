@@ -1,0 +1,10 @@
+pub mod Ranges
+pub mod States
+pub mod Ring
+pub mod Form
+pub mod Views
+pub mod Passed
+pub mod Writes
+pub mod Records
+pub mod Clocks
+pub mod Laws

@@ -1,0 +1,4 @@
+pub mod Record
+pub mod Journal
+pub mod Views
+pub mod Writes
