@@ -1,0 +1,3 @@
+pub mod Cards
+pub mod Steps
+pub mod Laws
