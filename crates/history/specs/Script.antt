@@ -1,0 +1,160 @@
+-- A script of calls, records of 128 bytes, and what replaying it comes to. Assumes nothing.
+use Prim.Native.Nat.{ℕ, suc, min, _+_, _*_, _/_, _%_, _≤_}
+use mathlib.Core.Path.{_≡_}
+use mathlib.Core.Bool.{cond}
+use mathlib.Core.List.{List, [], _∷_}
+use lib.Dec.{eqb, leb}
+use lib.ListN.{getD, length, take, drop}
+use Rattle.text.specs.Numbers.{u16At, u32At}
+use Rattle.reasons.specs.Reasons.{Outcome, gives, refuses, demand}
+use Rattle.slots.specs.Journal.{NewestIs}
+use Rattle.slots.specs.declared.Newest.the-variants.{Is}
+use Rattle.journal.specs.Held.{heldList, sumOf}
+use Rattle.history.specs.History.{Call, book, swipe, release, reads, aside, AnswerTo, Does, Done, Effect, booked-one, released-to, nothing, effectOf, booked, takings, freedCount, freedSum}
+use Rattle.history.specs.declared.Totals.{Totals}
+use Rattle.history.specs.declared.Replayed.{Replayed}
+use Rattle.history.specs.declared.Replayed.the-variants.{Played, NotWhole, TooLong}
+
+-- ---- the script
+
+-- kind 0 (1 book, 2 release, 3 swipe), PAN length 1, label 2 to 3, amount 4 to 7, clock 8 to 11, serial 12 to 15, bit count 16 to 19,
+-- PAN from 20, stream 64 to 127; what a kind has no use for is ignored
+
+abbrev pub kindAt : List ℕ → ℕ → ℕ
+kindAt s at = getD s at 0
+
+abbrev pub labelAt : List ℕ → ℕ → ℕ
+labelAt s at = u16At s (at + 2)
+
+abbrev pub amountAt : List ℕ → ℕ → ℕ
+amountAt s at = u32At s (at + 4)
+
+abbrev pub clockAt : List ℕ → ℕ → ℕ
+clockAt s at = u32At s (at + 8)
+
+abbrev pub serialAt : List ℕ → ℕ → ℕ
+serialAt s at = u32At s (at + 12)
+
+abbrev pub bitsAt : List ℕ → ℕ → ℕ
+bitsAt s at = u32At s (at + 16)
+
+-- as long as byte 1 says, at most the 44 bytes that there is room for
+abbrev pub panAt : List ℕ → ℕ → List ℕ
+panAt s at = take (min (getD s (at + 1) 0) 44) (drop (at + 20) s)
+
+abbrev pub streamAt : List ℕ → ℕ → List ℕ
+streamAt s at = take 64 (drop (at + 64) s)
+
+-- the call in the record at `at`, lent these tables and this scratch; a record of another kind makes none
+unfoldable pub callAt : List ℕ → List ℕ → List ℕ → List ℕ → ℕ → Call
+callAt s site acquirer scratch at =
+    cond (eqb (kindAt s at) 1) (book (panAt s at) (labelAt s at) (amountAt s at))
+    (cond (eqb (kindAt s at) 2) (release (serialAt s at))
+    (cond (eqb (kindAt s at) 3) (swipe (record { stream = streamAt s at; bits = bitsAt s at; site = site; acquirer = acquirer }) (amountAt s at) scratch)
+    aside))
+
+-- "a script too long for its sums is refused by a number of its own", 99; one that is no whole number of records with 6, before that
+unfoldable pub replayRule : List ℕ → Outcome (Unit {0})
+replayRule s =
+    demand (eqb (length s % 128) 0) 6
+    (demand (leb (length s / 128) 1048576) 99
+    (gives tt))
+
+-- ---- its calls, one after another
+
+-- the scratch after a call
+abbrev pub scratchLeft : (c : Call) → AnswerTo c → List ℕ → List ℕ
+scratchLeft (book pan label amount) r t = t
+scratchLeft (swipe card amount scratch) r t = r .scratch
+scratchLeft (release s) r t = t
+scratchLeft (reads q) r t = t
+scratchLeft aside r t = t
+
+-- the m records from number i on, played on the scratch t and the journal j, are the calls ds and leave the scratch u and the journal k
+pub data Plays (s site acquirer : List ℕ) : ℕ → ℕ → List ℕ → List ℕ → List Done → List ℕ → List ℕ → Type 0 where
+  no-record : {i : ℕ} {t j : List ℕ} → Plays s site acquirer i 0 t j [] t j
+  one-record : {i m : ℕ} {t j u k : List ℕ} {ds : List Done} (d : Done)
+      → d .call ≡ callAt s site acquirer t (128 * i) → d .clock ≡ clockAt s (128 * i) → Does j (d .clock) (d .call) (d .answer) (d .after)
+      → Plays s site acquirer (i + 1) m (scratchLeft (d .call) (d .answer) t) (d .after) ds u k → Plays s site acquirer i (suc m) t j (d ∷ ds) u k
+
+-- ---- what they come to
+
+-- a booking, a swipe or a release that did nothing was refused
+abbrev pub idle : Effect → ℕ
+idle (booked-one p) = 0
+idle (released-to s c y) = 0
+idle nothing = 1
+
+abbrev pub refusedIn : Call → Effect → ℕ
+refusedIn (book pan label amount) e = idle e
+refusedIn (swipe card amount scratch) e = idle e
+refusedIn (release s) e = idle e
+refusedIn (reads q) e = 0
+refusedIn aside e = 0
+
+abbrev pub skippedIn : Call → ℕ
+skippedIn (book pan label amount) = 0
+skippedIn (swipe card amount scratch) = 0
+skippedIn (release s) = 0
+skippedIn (reads q) = 0
+skippedIn aside = 1
+
+unfoldable pub refusedCount : List Done → ℕ
+refusedCount [] = 0
+refusedCount (d ∷ ds) = refusedIn (d .call) (effectOf d) + refusedCount ds
+
+unfoldable pub skippedCount : List Done → ℕ
+skippedCount [] = 0
+skippedCount (d ∷ ds) = skippedIn (d .call) + skippedCount ds
+
+-- the totals of these calls
+pub record TotalsOf (ds : List Done) (r : Totals) : Type 0 where
+  pub booked-is : r .booked ≡ length (booked ds)
+  pub takings-is : r .takings ≡ takings (booked ds)
+  pub released-is : r .released ≡ freedCount ds
+  pub remitted-is : r .remitted ≡ freedSum ds
+  pub refused-is : r .refused ≡ refusedCount ds
+  pub skipped-is : r .skipped ≡ skippedCount ds
+
+-- ---- the promises
+
+-- all records of the script were played, and r are the totals of their calls
+pub record PlaysAll (s site acquirer t j : List ℕ) (r : Totals) (u k : List ℕ) : Type 0 where
+  pub done : List Done
+  pub plays : Plays s site acquirer 0 (length s / 128) t j done u k
+  pub totals : TotalsOf done r
+
+-- what replaying a script allows; a refusal changes nothing
+pub data Replays (s site acquirer t j : List ℕ) : Outcome (Unit {0}) → Replayed → List ℕ → List ℕ → Type 0 where
+  played : {r : Totals} {u k : List ℕ} → PlaysAll s site acquirer t j r u k → Replays s site acquirer t j (gives tt) (Played r) u k
+  not-whole : Replays s site acquirer t j (refuses 6) NotWhole t j
+  too-long : Replays s site acquirer t j (refuses 99) TooLong t j
+
+-- held before + booked = held after + released, in number and in amount, of a journal whose newest serial was b
+pub record Conserved (b : ℕ) (j : List ℕ) (r : Totals) (k : List ℕ) : Type 0 where
+  pub newest : NewestIs k (Is (b + r .booked))
+  pub counts : length (heldList j b) + r .booked ≡ length (heldList k (b + r .booked)) + r .released
+  pub sums : sumOf (heldList j b) + r .takings ≡ sumOf (heldList k (b + r .booked)) + r .remitted
+
+abbrev pub Conserves : ℕ → List ℕ → Replayed → List ℕ → Type 0
+Conserves b j (Played r) k = Conserved b j r k
+Conserves b j NotWhole k = k ≡ j
+Conserves b j TooLong k = k ≡ j
+
+-- ---- what the inner functions promise
+
+-- one call was made and came to r, of which no number is large
+pub record PlaysOne (c : Call) (clock : ℕ) (t j : List ℕ) (r : Totals) (u k : List ℕ) : Type 0 where
+  pub answer : AnswerTo c
+  pub does : Does j clock c answer k
+  pub scratch : u ≡ scratchLeft c answer t
+  pub totals : TotalsOf (record { clock = clock; call = c; answer = answer; after = k } ∷ []) r
+  pub small : (r .booked ≤ 1) × (r .takings ≤ 4294967295) × (r .released ≤ 2048) × (r .remitted ≤ 8796093020160) × (r .refused ≤ 1) × (r .skipped ≤ 1)
+
+pub record Adds (t u r : Totals) : Type 0 where
+  pub booked : r .booked ≡ t .booked + u .booked
+  pub takings : r .takings ≡ t .takings + u .takings
+  pub released : r .released ≡ t .released + u .released
+  pub remitted : r .remitted ≡ t .remitted + u .remitted
+  pub refused : r .refused ≡ t .refused + u .refused
+  pub skipped : r .skipped ≡ t .skipped + u .skipped
