@@ -1,0 +1,251 @@
+/*
+ * The benchmark's program: each call on fixed inputs, by the library, by the
+ * reference (plain C at -O3) and by calls that do nothing, which cost what the
+ * way to a call and back costs.
+ *
+ * Run by bench/run under bench/count.c. Standard output: `row LINE NAME SIZE
+ * DEEPEST...`, and `input NAME SIZE TEXT`; the three sides' counts have the
+ * numbers 3 * LINE + 1, + 2 and + 3.
+ */
+#include <stdio.h>
+#include <string.h>
+#include "cases.h"
+#include "encode.h"
+#include "mark.h"
+
+door nothing_call;
+
+static door *const sides[3] = {library_call, reference_call, nothing_call};
+
+static struct made made;
+static struct lent lent;
+static uint8_t space[BUFFERS][LONGEST];
+static int line;
+
+/* ---- One row ------------------------------------------------------------ */
+
+static void mark(long number)
+{
+    long answer;
+    __asm__ volatile("syscall" : "=a"(answer) : "a"((long)MARK), "D"(number)
+                     : "rcx", "r11", "memory");
+}
+
+static void lend_all(void)
+{
+    for (int b = 0; b < BUFFERS; b++) {
+        memcpy(space[b], made.bytes[b], made.r.n[b]);
+        lent.buffer[b] = space[b];
+    }
+}
+
+/* The instructions of one call. */
+static uint32_t count(door *call, int number)
+{
+    lend_all();
+    mark(0);
+    uint32_t answer = call(&made.r, &lent);
+    mark(number);
+    return answer;
+}
+
+enum { STACK = 65536, PAINT = 0x5a };
+
+/* Call on a stack of its own. */
+static void call_on(uint8_t *top, door *call)
+{
+    const struct request *r = &made.r;
+    struct lent *l = &lent;
+    __asm__ volatile("movq %%rsp, %%rbx\n\t"
+                     "movq %2, %%rsp\n\t"
+                     "call *%3\n\t"
+                     "movq %%rbx, %%rsp"
+                     : "+D"(r), "+S"(l)
+                     : "r"(top), "r"(call)
+                     : "rax", "rbx", "rcx", "rdx", "r8", "r9", "r10", "r11", "memory", "cc",
+                       "xmm0", "xmm1", "xmm2", "xmm3", "xmm4", "xmm5", "xmm6", "xmm7", "xmm8",
+                       "xmm9", "xmm10", "xmm11", "xmm12", "xmm13", "xmm14", "xmm15");
+}
+
+/* How far down a call writes its stack. */
+static int deepest(door *call)
+{
+    static _Alignas(16) uint8_t stack[STACK];
+    memset(stack, PAINT, STACK);
+    lend_all();
+    call_on(stack + STACK, call);
+    int at = 0;
+    while (at < STACK && stack[at] == PAINT)
+        at++;
+    return STACK - at;
+}
+
+static void row(const char *name, unsigned size)
+{
+    printf("row %d %s %u", line, name, size);
+    for (int s = 0; s < 3; s++) {
+        uint32_t answer = count(sides[s], 3 * line + s + 1);
+        printf(" %u %d", answer, deepest(sides[s]));
+    }
+    printf("\n");
+    line++;
+}
+
+/* ---- Inputs ------------------------------------------------------------- */
+
+static const char pan[] = "4111111111111111";
+static const char card[] = "4111111111111111=2512101";
+static const char full_track[] = ";4111111111111111=25121010000000000000?";
+
+static void start(enum call call)
+{
+    memset(&made.r, 0, sizeof made.r);
+    made.r.call = call;
+    made.r.label = 7;
+    made.r.amount = 250;
+}
+
+static void lend_text(int buffer, const char *text)
+{
+    made.r.n[buffer] = strlen(text);
+    memcpy(made.bytes[buffer], text, made.r.n[buffer]);
+}
+
+static void text_row(const char *name, enum call call, const char *first, const char *second)
+{
+    start(call);
+    lend_text(0, first);
+    lend_text(1, second);
+    printf("input %s 0 %s %s\n", name, first, call == PAN_MASK ? "" : second);
+    row(name, 0);
+}
+
+static void text_rows(void)
+{
+    text_row("luhn_test", LUHN_TEST, pan, "");
+    text_row("luhn_make", LUHN_MAKE, "411111111111111", "");
+    text_row("pan_mask", PAN_MASK, pan, pan);
+    text_row("layout_read", LAYOUT_READ, card, "");
+    text_row("creditor_test", CREDITOR_TEST, "RF18539007547034", "");
+    text_row("creditor_make", CREDITOR_MAKE, "539007547034", "");
+    text_row("iban_test.DE", IBAN_TEST, "DE89370400440532013000", "");
+    text_row("iban_test.GB", IBAN_TEST, "GB82WEST12345698765432", "");
+    text_row("iban_test.MT", IBAN_TEST, "MT84MALT011000012345MTLCAST001S", "");
+    text_row("iban_make.DE", IBAN_MAKE, "DE", "370400440532013000");
+}
+
+/* The full track in buffer 0: sixteen zeros, 40 characters, sixteen zeros. */
+static void lend_track(bool reversed)
+{
+    uint8_t stream[29] = {0};
+    put_track(stream + 2, full_track);
+    made.r.bits = 8 * sizeof stream;
+    made.r.n[0] = sizeof stream;
+    memset(made.bytes[0], 0, sizeof stream);
+    for (size_t i = 0; i < made.r.bits; i++) {
+        size_t to = reversed ? made.r.bits - 1 - i : i;
+        made.bytes[0][to / 8] |= (uint8_t)((stream[i / 8] >> i % 8 & 1) << to % 8);
+    }
+}
+
+static void track_row(const char *name, bool reversed)
+{
+    start(TRACK2_READ);
+    lend_track(reversed);
+    made.r.n[1] = 37;
+    printf("input %s 0 %s with LRC, sixteen zeros before and after%s\n", name, full_track,
+           reversed ? ", last bit first" : "");
+    row(name, 0);
+}
+
+/* A table whose last record alone fits; the others lie below and above in turn. */
+static void lend_table(int buffer, unsigned records)
+{
+    made.r.n[buffer] = 16 * (size_t)records;
+    for (unsigned i = 0; i < records; i++) {
+        uint32_t low = i % 2 ? 50000000 + i : 30000000 + i;
+        struct range r = {low, low, 7, 13, 19};
+        if (i + 1 == records)
+            r = (struct range){40000000, 49999999, 7, 13, 19};
+        put_range(made.bytes[buffer] + 16 * (size_t)i, &r);
+    }
+}
+
+static void range_row(unsigned records)
+{
+    start(RANGE_FIND);
+    lend_table(1, records);
+    lend_text(2, pan);
+    printf("input range_find %u %s; no site's table; the acquirer's last record alone fits\n",
+           records, pan);
+    row("range_find", records);
+}
+
+/* A journal that has wrapped, its older half released, its newer half held. */
+static uint32_t lend_journal(int buffer, unsigned slots)
+{
+    uint32_t newest = slots + slots / 2;
+    made.r.n[buffer] = (size_t)slots * SLOT;
+    for (uint32_t s = newest - slots + 1; s <= newest; s++) {
+        struct record r = {s, 1000 + s, 250, 7, 16, s > newest - slots / 2 ? 1 : 2};
+        put_record(made.bytes[buffer] + (size_t)((s - 1) % slots) * SLOT, &r,
+                   (const uint8_t *)"4111111111");
+    }
+    return newest;
+}
+
+static void print_journal(const char *name, unsigned slots, const char *beside)
+{
+    printf("input %s %u wrapped, older half released, newer half held%s\n", name, slots, beside);
+}
+
+static void journal_row(const char *name, enum call call, unsigned slots)
+{
+    start(call);
+    uint32_t newest = lend_journal(0, slots);
+    made.r.serial = call == JOURNAL_WALK ? newest - slots / 2 : newest;
+    if (call == JOURNAL_BOOK)
+        lend_text(1, pan);
+    else if (call == JOURNAL_SURVEY)
+        made.r.n[1] = slots;
+    print_journal(name, slots, call == JOURNAL_BOOK ? "; 4111111111111111, amount 250" :
+                  call == JOURNAL_RELEASE ? "; up to the newest" : "");
+    row(name, slots);
+}
+
+static void swipe_row(const char *name, bool reversed, unsigned slots)
+{
+    start(SWIPE);
+    lend_track(reversed);
+    lend_table(2, 16);
+    made.r.n[3] = 37;
+    lend_journal(4, slots);
+    print_journal(name, slots, "; the full track, the 16 records, amount 250");
+    row(name, slots);
+}
+
+static void journal_rows(unsigned slots)
+{
+    journal_row("journal_book", JOURNAL_BOOK, slots);
+    journal_row("journal_release", JOURNAL_RELEASE, slots);
+    journal_row("journal_show", JOURNAL_SHOW, slots);
+    journal_row("journal_tell", JOURNAL_TELL, slots);
+    journal_row("journal_walk", JOURNAL_WALK, slots);
+    journal_row("journal_survey", JOURNAL_SURVEY, slots);
+    swipe_row("swipe", false, slots);
+    swipe_row("swipe.reversed", true, slots);
+}
+
+int main(void)
+{
+    static const unsigned records[] = {16, 64, 256, 1024, 4096};
+    static const unsigned slots[] = {16, 64, 256, 1024, 2048};
+    text_rows();
+    track_row("track2_read.forward", false);
+    track_row("track2_read.reversed", true);
+    for (int i = 0; i < 5; i++)
+        range_row(records[i]);
+    for (int i = 0; i < 5; i++)
+        journal_rows(slots[i]);
+    return 0;
+}

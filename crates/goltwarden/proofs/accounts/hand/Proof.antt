@@ -1,0 +1,28 @@
+use mathlib.Core.Path.{sym, ap, _∙_}
+use borrow.Author.Needs.{needs}
+use Rattle.mod97.specs.Pair.{saidMade}
+use Rattle.goltwarden.proofs.Handed.{kept}
+use Rattle.goltwarden.proofs.accounts.hand.Statement.{statement}
+use Rattle.goltwarden.proofs.accounts.hand.Tie as tie
+
+enum-known-made : tie.Need-enum-known-made
+enum-known-made c = search needs
+
+enum-known-made-2 : tie.Need-enum-known-made-2
+enum-known-made-2 c = search needs
+
+number-requires : tie.Need-number-requires
+number-requires c κs = search needs
+
+returns : tie.Need-returns
+returns c = search needs
+
+returns-2 : tie.Need-returns-2
+returns-2 c =
+    let at = c .before .before .before .before in
+    let k = kept (saidMade (at .args .made)) (at .args .pair .now) (λ p. p) _ (sym (ap saidMade (c .before .before .made2 .given .1))) in
+    (c .number .ensures ∙ k .0, k .1)
+
+pub hand-spec : {M : Type 1} → statement M
+hand-spec =
+    tie.close (tie.spec enum-known-made enum-known-made-2 number-requires returns returns-2)

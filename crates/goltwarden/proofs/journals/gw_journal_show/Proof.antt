@@ -1,0 +1,50 @@
+use mathlib.Core.Path.{sym, ap, _∙_}
+use Rattle.slots.proofs.Views.{seen-so}
+use Rattle.goltwarden.proofs.Handed.{gave, kept}
+use native.Mathlib.Omega.{arith}
+use Rattle.journal.specs.Rules.{showRule, saidShown}
+use Rattle.journal.proofs.Rule.{found-in}
+use Rattle.goltwarden.proofs.Walked.{short}
+use borrow.Author.Needs.{needs}
+use Rattle.goltwarden.proofs.journals.gw_journal_show.Statement.{statement}
+use Rattle.goltwarden.proofs.journals.gw_journal_show.Tie as tie
+
+find-requires : tie.Need-find-requires
+find-requires c κs = search needs
+
+enum-known-a : tie.Need-enum-known-a
+enum-known-a c = search needs
+
+cast-at : tie.Need-cast-at
+cast-at c =
+    let at = c .before .before .before in
+    let a = at .before .before .args in
+    let i = found-in (a .journal .now) (a .serial) _ _ (at .find .ensures) (c .before .a .given .1) in
+    let l = short (a .journal .now) (a .serial) _ (at .find .ensures .view) (at .find .ensures .is) (sym (ap saidShown (c .before .a .given .1)) ∙ at .find .ensures .so) in
+    omega arith
+
+enum-known-why : tie.Need-enum-known-why
+enum-known-why c = search needs
+
+number-requires : tie.Need-number-requires
+number-requires c κs = search needs
+
+returns : tie.Need-returns
+returns c =
+    let at = c .before .before .before in
+    let a = at .before .before .args in
+    seen-so (a .journal .now) (at .find .ensures) (λ m p.
+    gave (showRule m (a .journal .now) (a .serial)) (a .at .now) (λ x. x) _ (sym (ap saidShown (c .before .a .given .1)) ∙ p))
+
+returns-2 : tie.Need-returns-2
+returns-2 c =
+    let at = c .before .before .before .before in
+    let a = at .before .before .args in
+    seen-so (a .journal .now) (at .find .ensures) (λ m p.
+    let k = kept (showRule m (a .journal .now) (a .serial)) (a .at .now) (λ x. x) _ (sym (ap saidShown (c .before .before .why .given .1)) ∙ p) in
+    (c .number .ensures ∙ k .0, k .1))
+
+pub gw-journal-show-spec : {M : Type 1} → statement M
+gw-journal-show-spec =
+    tie.close
+    (tie.spec find-requires enum-known-a cast-at enum-known-why number-requires returns returns-2)

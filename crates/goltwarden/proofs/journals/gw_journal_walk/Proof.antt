@@ -1,0 +1,59 @@
+use mathlib.Core.Path.{_∙_}
+use Rattle.slots.proofs.Views.{seen}
+use Rattle.goltwarden.specs.Walk.{walkRule, walkPlace}
+use Rattle.goltwarden.proofs.Handed.{gave, kept}
+use Rattle.goltwarden.proofs.Walked.{walk-bad, walk-done, is-formed}
+use borrow.Author.Needs.{needs}
+use Rattle.goltwarden.proofs.journals.gw_journal_walk.Statement.{statement}
+use Rattle.goltwarden.proofs.journals.gw_journal_walk.Tie as tie
+
+newest-of-requires : tie.Need-newest-of-requires
+newest-of-requires c κs = search needs
+
+enum-told : tie.Need-enum-told
+enum-told c = search needs
+
+enum-known-b : tie.Need-enum-known-b
+enum-known-b c = search needs
+
+first-above-requires : tie.Need-first-above-requires
+first-above-requires c κs =
+    let at = c .before .before .before in
+    is-formed (at .before .before .args .journal .now) _ _ (at .newest-of .ensures) (c .before .b .given .1)
+
+place-or-zero-requires : tie.Need-place-or-zero-requires
+place-or-zero-requires c κs =
+    let at = c .before .before .before .before in
+    let f = is-formed (at .before .before .args .journal .now) _ _ (at .newest-of .ensures) (c .before .before .b .given .1) in
+    (f .least, f .most)
+
+returns : tie.Need-returns
+returns c =
+    let at = c .before .before in
+    let a = at .before .before .args in
+    let j = a .journal .now in
+    seen j _ _ (at .newest-of .ensures) (c .enum-told .given .1)
+    (let k = kept (walkRule _ j (a .above)) (a .serial .now) (λ s. s) _ (walk-bad j (a .above)) in
+    (k .0, k .1, kept (walkRule _ j (a .above)) (a .at .now) (λ s. walkPlace j s) _ (walk-bad j (a .above)) .1))
+
+returns-2 : tie.Need-returns-2
+returns-2 c =
+    let at = c .before .before .before .before .before in
+    let a = at .before .before .args in
+    let j = a .journal .now in
+    seen j _ _ (at .newest-of .ensures) (c .before .before .before .b .given .1)
+    (let e = walk-done j _ (a .above) _ (c .before .first-above .ensures) in
+    let g = gave (walkRule _ j (a .above)) (a .serial .now) (λ s. s) _ e in
+    (g .0, g .1, c .place-or-zero .ensures ∙ gave (walkRule _ j (a .above)) (a .at .now) (λ s. walkPlace j s) _ e .1))
+
+pub gw-journal-walk-spec : {M : Type 1} → statement M
+gw-journal-walk-spec =
+    tie.close
+    (tie.spec
+    newest-of-requires
+    enum-told
+    enum-known-b
+    first-above-requires
+    place-or-zero-requires
+    returns
+    returns-2)

@@ -1,0 +1,111 @@
+use borrow.Author.Needs.{needs}
+use Prim.Native.Nat.{ℕ, _≤_, _<_}
+use mathlib.Core.Path.{_≡_, refl, sym, ap, _∙_}
+use native.Mathlib.Omega.{arith}
+use Rattle.reasons.specs.Reasons.{gives, numberIn}
+use Rattle.layout.specs.Layout.{Places, layoutRule, said, fieldCut}
+use Rattle.layout.specs.declared.Field.{Field}
+use Rattle.layout.specs.declared.Field.the-variants.{Absent, At}
+use Rattle.layout.proofs.Laws.{places-small}
+use Rattle.goltwarden.proofs.Handed.{gave, kept}
+use Rattle.goltwarden.proofs.stripe.gw_layout_read.Statement.{statement}
+use Rattle.goltwarden.proofs.stripe.gw_layout_read.Tie as tie
+
+-- where a field stands, whatever its size
+same-start : (f : Field) (n m : ℕ) → fieldCut n f .start ≡ fieldCut m f .start
+same-start Absent n m = refl
+same-start (At q) n m = refl
+
+-- the places that the division gave
+abbrev places : tie.After-known-told → Places
+places c = let g = c .before .p .given .0 in record { pan = g .0; expiry = g .1 .0; service = g .1 .1 .0; rest = g .1 .1 .1 .0 }
+
+rule-is : (c : tie.After-known-told) → gives (places c) ≡ layoutRule (c .before .before .before .before .before .args .chars .now)
+rule-is c = sym (ap said (c .before .p .given .1)) ∙ c .before .before .before .divide .ensures
+
+small : (c : tie.After-known-told) →
+    let d = places c in
+    (d .pan ≤ 19) × (fieldCut 4 (d .expiry) .start ≤ 20) × (fieldCut 3 (d .service) .start ≤ 24) × (d .rest ≤ 27)
+small c = places-small (c .before .before .before .before .before .args .chars .now) (places c) (sym (rule-is c))
+
+divide-requires : tie.Need-divide-requires
+divide-requires c κs = search needs
+
+enum-known-p : tie.Need-enum-known-p
+enum-known-p c = search needs
+
+cast-pan : tie.Need-cast-pan
+cast-pan c = omega (arith, small c)
+
+place-requires : tie.Need-place-requires
+place-requires c κs =
+    let f = places c .expiry in
+    let h : fieldCut 0 f .start < 100 = omega (arith, small c, same-start f 0 4) in h
+
+place-requires-2 : tie.Need-place-requires-2
+place-requires-2 c κs =
+    let f = places (c .before) .service in
+    let h : fieldCut 0 f .start < 100 = omega (arith, small (c .before), same-start f 0 3) in h
+
+cast-rest : tie.Need-cast-rest
+cast-rest c = omega (arith, small (c .before .before))
+
+enum-known-why : tie.Need-enum-known-why
+enum-known-why c = search needs
+
+number-requires : tie.Need-number-requires
+number-requires c κs = search needs
+
+returns : tie.Need-returns
+returns c =
+    let v = c .before in
+    let t = v .before in
+    let a = t .before .before .before .before .before .args in
+    let o = layoutRule (a .chars .now) in (
+      ap numberIn (rule-is t),
+      (
+        gave o (a .pan .now) (λ d. d .pan) (places t) (rule-is t) .1,
+        (
+          v .place .ensures ∙ same-start (places t .expiry) 0 4 ∙ gave o (a .expiry .now) (λ d. fieldCut 4 (d .expiry) .start) (places t) (rule-is t) .1,
+          (
+            c .place2 .ensures ∙ same-start (places t .service) 0 3 ∙ gave o (a .service .now) (λ d. fieldCut 3 (d .service) .start) (places t) (rule-is t) .1,
+            gave o (a .rest .now) (λ d. d .rest) (places t) (rule-is t) .1,
+          ),
+        ),
+      ),
+    )
+
+returns-2 : tie.Need-returns-2
+returns-2 c =
+    let w = c .before .before in
+    let m = w .before .before in
+    let a = m .before .before .args in
+    let o = layoutRule (a .chars .now) in
+    let e = sym (ap said (w .why .given .1)) ∙ m .divide .ensures in (
+      c .number .ensures ∙ ap numberIn e,
+      (
+        kept o (a .pan .now) (λ d. d .pan) _ e .1,
+        (
+          kept o (a .expiry .now) (λ d. fieldCut 4 (d .expiry) .start) _ e .1,
+          (
+            kept o (a .service .now) (λ d. fieldCut 3 (d .service) .start) _ e .1,
+            kept o (a .rest .now) (λ d. d .rest) _ e .1,
+          ),
+        ),
+      ),
+    )
+
+pub gw-layout-read-spec : {M : Type 1} → statement M
+gw-layout-read-spec =
+    tie.close
+    (tie.spec
+    divide-requires
+    enum-known-p
+    cast-pan
+    place-requires
+    place-requires-2
+    cast-rest
+    enum-known-why
+    number-requires
+    returns
+    returns-2)

@@ -1,0 +1,121 @@
+use borrow.Author.Needs.{needs}
+use mathlib.Core.Path.{_≡_, sym, ap, _∙_}
+use mathlib.Core.Bool.{true, false}
+use native.Mathlib.Omega.{arith}
+use lib.ListN.{length}
+use Rattle.reasons.specs.Reasons.{gives, numberIn}
+use Rattle.bits.specs.Stream.{bitN}
+use Rattle.bits.specs.Reading.{said, counted}
+use Rattle.track2.specs.Track2.{track2Rule}
+use Rattle.track2.proofs.Counts.{behind, refused, few}
+use Rattle.goltwarden.proofs.Handed.{gave, kept}
+use Rattle.goltwarden.proofs.stripe.gw_track2_read.Statement.{statement}
+use Rattle.goltwarden.proofs.stripe.gw_track2_read.Tie as tie
+
+-- what the reading said, forward and reversed
+forward : (c : tie.After-known-told) →
+    let a = c .before .before .before .before .before .before .before .before .before .args in
+    gives (false, c .before .n .given .0 .0) ≡ counted (track2Rule (a .stream .now) (a .bits) (length (a .out .now)))
+forward c = sym (ap said (c .before .n .given .1)) ∙ c .before .before .before .before .before .read .ensures .0
+
+backward : (c : tie.After-known-told2) →
+    let a = c .before .before .before .before .before .before .before .before .before .args in
+    gives (true, c .before .n2 .given .0 .0) ≡ counted (track2Rule (a .stream .now) (a .bits) (length (a .out .now)))
+backward c = sym (ap said (c .before .n2 .given .1)) ∙ c .before .before .before .before .before .read .ensures .0
+
+read-requires : tie.Need-read-requires
+read-requires c κs = search needs
+
+enum-known-n : tie.Need-enum-known-n
+enum-known-n c = search needs
+
+cast-count : tie.Need-cast-count
+cast-count c = omega (arith, few _ _ _ _ _ (forward c))
+
+enum-known-n-2 : tie.Need-enum-known-n-2
+enum-known-n-2 c = search needs
+
+cast-count-2 : tie.Need-cast-count-2
+cast-count-2 c = omega (arith, few _ _ _ _ _ (backward c))
+
+enum-known-why : tie.Need-enum-known-why
+enum-known-why c = search needs
+
+number-requires : tie.Need-number-requires
+number-requires c κs = search needs
+
+same-length : tie.Need-same-length
+same-length c = search needs
+
+returns : tie.Need-returns
+returns c =
+    let r = c .before .before .before .before .before in
+    let a = r .before .before .before .before .args in
+    let o = track2Rule (a .stream .now) (a .bits) (length (a .out .now)) in
+    let b = behind o false _ (forward c) in (
+      ap numberIn (b .is),
+      (
+        r .read .ensures .1,
+        (
+          b .count ∙ gave o (a .count .now) (λ t. length (t .chars)) (b .track) (b .is) .1,
+          ap bitN (b .direction) ∙ gave o (a .reversed .now) (λ t. bitN (t .reversed)) (b .track) (b .is) .1,
+        ),
+      ),
+    )
+
+same-length-2 : tie.Need-same-length-2
+same-length-2 c = search needs
+
+returns-2 : tie.Need-returns-2
+returns-2 c =
+    let r = c .before .before .before .before .before in
+    let a = r .before .before .before .before .args in
+    let o = track2Rule (a .stream .now) (a .bits) (length (a .out .now)) in
+    let b = behind o true _ (backward c) in (
+      ap numberIn (b .is),
+      (
+        r .read .ensures .1,
+        (
+          b .count ∙ gave o (a .count .now) (λ t. length (t .chars)) (b .track) (b .is) .1,
+          ap bitN (b .direction) ∙ gave o (a .reversed .now) (λ t. bitN (t .reversed)) (b .track) (b .is) .1,
+        ),
+      ),
+    )
+
+same-length-3 : tie.Need-same-length-3
+same-length-3 c = search needs
+
+returns-3 : tie.Need-returns-3
+returns-3 c =
+    let w = c .before .before in
+    let r = w .before .before .before .before in
+    let a = r .before .before .before .before .args in
+    let o = track2Rule (a .stream .now) (a .bits) (length (a .out .now)) in
+    let e = refused o _ (sym (ap said (w .why .given .1)) ∙ r .read .ensures .0) in (
+      c .number .ensures ∙ ap numberIn e,
+      (
+        r .read .ensures .1,
+        (
+          kept o (a .count .now) (λ t. length (t .chars)) _ e .1,
+          kept o (a .reversed .now) (λ t. bitN (t .reversed)) _ e .1,
+        ),
+      ),
+    )
+
+pub gw-track2-read-spec : {M : Type 1} → statement M
+gw-track2-read-spec =
+    tie.close
+    (tie.spec
+    read-requires
+    enum-known-n
+    cast-count
+    enum-known-n-2
+    cast-count-2
+    enum-known-why
+    number-requires
+    same-length
+    returns
+    same-length-2
+    returns-2
+    same-length-3
+    returns-3)

@@ -1,0 +1,754 @@
+#include <string.h>
+#include "cases.h"
+#include "encode.h"
+
+/* ---- Drawing ------------------------------------------------------------ */
+
+static uint64_t state;
+
+uint64_t draw(void)
+{
+    uint64_t z = state += UINT64_C(0x9e3779b97f4a7c15);
+    z = (z ^ z >> 30) * UINT64_C(0xbf58476d1ce4e5b9);
+    z = (z ^ z >> 27) * UINT64_C(0x94d049bb133111eb);
+    return z ^ z >> 31;
+}
+
+void begin_case(uint64_t seed, uint64_t number)
+{
+    state = seed;
+    state = draw() ^ number * UINT64_C(0xd1342543de82ef95);
+}
+
+uint32_t below(uint32_t n)
+{
+    return (uint32_t)(draw() >> 32) % n;
+}
+
+bool one_in(uint32_t n)
+{
+    return below(n) == 0;
+}
+
+static uint32_t between(uint32_t low, uint32_t high)
+{
+    return low + below(high - low + 1);
+}
+
+/* Any length up to a little above the bound, each bound and its neighbours more
+ * often. */
+static size_t length_around(uint32_t low, uint32_t high)
+{
+    uint32_t edge = one_in(2) ? low : high;
+    if (one_in(4))
+        return edge + below(3) - (edge > 0);
+    return one_in(6) ? below(high + 4) : between(low, high);
+}
+
+/* ---- Texts -------------------------------------------------------------- */
+
+static uint8_t draw_digit(void)
+{
+    return (uint8_t)('0' + below(10));
+}
+
+static uint8_t draw_capital(void)
+{
+    return (uint8_t)('A' + below(26));
+}
+
+static void fill_digits(uint8_t *s, size_t n)
+{
+    for (size_t i = 0; i < n; i++)
+        s[i] = draw_digit();
+}
+
+static void fill_digits_and_capitals(uint8_t *s, size_t n)
+{
+    for (size_t i = 0; i < n; i++)
+        s[i] = one_in(2) ? draw_digit() : draw_capital();
+}
+
+static void fill_any(uint8_t *s, size_t n)
+{
+    for (size_t i = 0; i < n; i++)
+        s[i] = (uint8_t)draw();
+}
+
+/* A byte just outside what is allowed, or any byte. */
+static uint8_t odd_byte(void)
+{
+    static const uint8_t near[] = {'/', ':', '@', '[', '`', 'a', 'z', '{', '0', '9', 'A', 'Z',
+                                   '=', ' ', 0, 255};
+    return one_in(3) ? (uint8_t)draw() : near[below(sizeof near)];
+}
+
+static void exchange(uint8_t *a, uint8_t *b)
+{
+    uint8_t held = *a;
+    *a = *b;
+    *b = held;
+}
+
+/* One byte, bit, length or order off. */
+static void spoil(uint8_t *s, size_t *n)
+{
+    size_t at = *n ? below((uint32_t)*n) : 0;
+    size_t other = *n ? below((uint32_t)*n) : 0;
+    switch (*n ? below(7) : 6) {
+    case 0: s[at] = odd_byte(); break;
+    case 1: s[at] ^= (uint8_t)(1 << below(8)); break;
+    case 2: exchange(&s[at], &s[other]); break;
+    case 3: exchange(&s[at], &s[at ? at - 1 : other]); break;
+    case 4: s[at] = one_in(2) ? draw_digit() : draw_capital(); break;
+    case 5: *n -= 1; break;
+    default: s[(*n)++] = one_in(2) ? odd_byte() : draw_digit(); break;
+    }
+}
+
+static void spoil_one_in(uint32_t k, uint8_t *s, size_t *n)
+{
+    if (one_in(k))
+        spoil(s, n);
+}
+
+/* What the reference makes of a body, to build texts that pass. */
+static bool made_of(struct request *r, struct lent *l, uint8_t *country, uint8_t *body, size_t n)
+{
+    r->n[0] = country ? 2 : n;
+    r->n[1] = n;
+    l->buffer[0] = country ? country : body;
+    l->buffer[1] = body;
+    return reference_call(r, l) == 0;
+}
+
+static void end_by_luhn(uint8_t *s, size_t n)
+{
+    struct request r = {.call = LUHN_MAKE};
+    struct lent l;
+    if (n > 1 && made_of(&r, &l, NULL, s, n - 1))
+        s[n - 1] = l.digit;
+}
+
+static void fill_luhn(uint8_t *s, size_t n)
+{
+    fill_digits(s, n);
+    end_by_luhn(s, n);
+}
+
+static void make_luhn_test(struct made *m)
+{
+    size_t *n = &m->r.n[0];
+    *n = length_around(2, 40);
+    fill_luhn(m->bytes[0], *n);
+    spoil_one_in(2, m->bytes[0], n);
+}
+
+static void make_luhn_body(struct made *m)
+{
+    m->r.n[0] = length_around(1, 39);
+    fill_digits(m->bytes[0], m->r.n[0]);
+    spoil_one_in(4, m->bytes[0], &m->r.n[0]);
+}
+
+static void make_pan(uint8_t *pan, size_t *n)
+{
+    *n = one_in(4) ? length_around(13, 19) : between(13, 19);
+    fill_luhn(pan, *n);
+    if (one_in(6))
+        fill_digits(pan, *n);
+    spoil_one_in(6, pan, n);
+}
+
+static void make_mask(struct made *m)
+{
+    make_pan(m->bytes[0], &m->r.n[0]);
+    m->r.n[1] = one_in(2) ? below(24) : m->r.n[0] + below(4) - (m->r.n[0] > 0);
+    fill_any(m->bytes[1], m->r.n[1]);
+}
+
+/* ---- Range tables ------------------------------------------------------- */
+
+static uint32_t first_eight(const uint8_t *pan, size_t n)
+{
+    uint32_t v = 0;
+    for (size_t i = 0; i < 8 && i < n; i++)
+        v = 10 * v + (uint32_t)(pan[i] - '0');
+    return v;
+}
+
+/* A number near v: itself, a neighbour, another in the last two digits, or far. */
+static uint32_t near_number(uint32_t v)
+{
+    static const uint32_t far[] = {0, 99999999, UINT32_MAX};
+    switch (below(6)) {
+    case 0: return v;
+    case 1: return v + 1;
+    case 2: return v - 1;
+    case 3: return v - v % 100 + below(100);
+    case 4: return far[below(3)];
+    default: return v ^ UINT32_C(1) << below(32);
+    }
+}
+
+/* A record that mostly fits, or misses by little. */
+static void make_range_record(uint8_t *record, uint32_t v, size_t pan_n)
+{
+    fill_any(record, 16);
+    if (one_in(16))
+        return;
+    struct range r = {
+        .low = one_in(2) ? v - below(1000) : near_number(v),
+        .high = one_in(2) ? v + below(1000) : near_number(v),
+        .label = (uint16_t)draw(),
+        .shortest = (uint8_t)(pan_n + 1 - below(4)),
+        .longest = (uint8_t)(pan_n - 1 + below(4)),
+    };
+    put_range(record, &r);
+}
+
+static size_t table_length(void)
+{
+    static const size_t bounds[] = {65536, 65520, 65552, 65535, 65537, 65544};
+    if (one_in(400))
+        return bounds[below(6)];
+    if (one_in(12))
+        return below(70);
+    return 16 * below(5);
+}
+
+static void make_table(uint8_t *table, size_t *n, const uint8_t *pan, size_t pan_n)
+{
+    uint32_t v = first_eight(pan, pan_n);
+    *n = table_length();
+    for (size_t at = 0; at + 16 <= *n; at += 16) {
+        if (*n < 1000 || at + 48 > *n)
+            make_range_record(table + at, v, pan_n);
+        else
+            memset(table + at, (int)(at >> 4), 16);
+    }
+    fill_any(table + *n / 16 * 16, *n % 16);
+}
+
+static void make_range(struct made *m)
+{
+    make_pan(m->bytes[2], &m->r.n[2]);
+    for (int i = 0; i < 2; i++)
+        make_table(m->bytes[i], &m->r.n[i], m->bytes[2], m->r.n[2]);
+}
+
+/* ---- Track 2 ------------------------------------------------------------ */
+
+/* A stream of bits, one to a byte, before it is packed. */
+struct bits {
+    uint8_t bit[8192];
+    size_t n;
+};
+
+static void add_zeros(struct bits *s, size_t count)
+{
+    memset(s->bit + s->n, 0, count);
+    s->n += count;
+}
+
+static void add_character(struct bits *s, unsigned number)
+{
+    for (unsigned i = 0; i < 5; i++)
+        s->bit[s->n++] = with_parity(number) >> i & 1;
+}
+
+/* Start, characters, end and LRC; now and then without an end, or a wrong LRC. */
+static void add_track(struct bits *s, const uint8_t *chars, size_t n)
+{
+    unsigned lrc = 11 ^ 15;
+    add_character(s, 11);
+    for (size_t i = 0; i < n; i++) {
+        add_character(s, (chars[i] - '0') & 15);
+        lrc ^= (chars[i] - '0') & 15;
+    }
+    if (!one_in(30))
+        add_character(s, 15);
+    add_character(s, one_in(30) ? below(16) : lrc);
+}
+
+static size_t clocking_zeros(void)
+{
+    return one_in(2) ? below(3) : below(60);
+}
+
+static void reverse(struct bits *s)
+{
+    for (size_t i = 0; i < s->n / 2; i++)
+        exchange(&s->bit[i], &s->bit[s->n - 1 - i]);
+}
+
+/* One bit or the count of bits off. */
+static void spoil_bits(struct bits *s)
+{
+    size_t at = below((uint32_t)s->n);
+    switch (below(5)) {
+    case 0: s->n = at; break;
+    case 1: s->n -= below(s->n < 12 ? (uint32_t)s->n : 12); break;
+    case 2: s->bit[s->n - 1] ^= 1; break;
+    case 3: s->bit[at] ^= 1; s->bit[below((uint32_t)s->n)] ^= 1; break;
+    default: s->bit[at] ^= 1; break;
+    }
+}
+
+/* Zeros up to a count at the bound of 4,096 bits. */
+static void stretch(struct bits *s)
+{
+    size_t want = 4095 + below(3);
+    if (s->n < want)
+        add_zeros(s, want - s->n);
+    if (one_in(3))
+        s->bit[s->n - 1] = 1;
+}
+
+static void pack(const struct bits *s, uint8_t *bytes, size_t *n, uint64_t *bits)
+{
+    *n = (s->n + 7) / 8 + (one_in(3) ? below(3) : 0);
+    fill_any(bytes, *n);
+    for (size_t i = 0; i < s->n; i++)
+        bytes[i / 8] = (uint8_t)((bytes[i / 8] & ~(1 << i % 8)) | s->bit[i] << i % 8);
+    *bits = s->n;
+    if (one_in(40))
+        *bits = one_in(2) ? 8 * *n + below(3) : draw() >> below(64);
+}
+
+static void make_stream(uint8_t *bytes, size_t *n, uint64_t *bits, const uint8_t *chars,
+                        size_t chars_n)
+{
+    static struct bits s;
+    s.n = 0;
+    add_zeros(&s, clocking_zeros());
+    add_track(&s, chars, chars_n);
+    add_zeros(&s, clocking_zeros());
+    if (one_in(2))
+        reverse(&s);
+    if (one_in(50))
+        stretch(&s);
+    if (one_in(4))
+        spoil_bits(&s);
+    pack(&s, bytes, n, bits);
+}
+
+static void make_random_stream(struct made *m)
+{
+    m->r.n[0] = below(one_in(20) ? 520 : 40);
+    fill_any(m->bytes[0], m->r.n[0]);
+    m->r.bits = 8 * m->r.n[0] - below(m->r.n[0] ? 8 : 1);
+    if (m->r.n[0] && one_in(2))
+        m->bytes[0][0] = 0x0b;
+}
+
+static void make_track2(struct made *m)
+{
+    uint8_t chars[48];
+    size_t n = one_in(3) ? 34 + below(8) : below(42);
+    for (size_t i = 0; i < n; i++)
+        chars[i] = (uint8_t)('0' + below(one_in(20) ? 16 : 15));
+    if (one_in(12))
+        make_random_stream(m);
+    else
+        make_stream(m->bytes[0], &m->r.n[0], &m->r.bits, chars, n);
+    m->r.n[1] = one_in(4) ? below(45) : 36 + below(4);
+    fill_any(m->bytes[1], m->r.n[1]);
+}
+
+/* ---- Layout ------------------------------------------------------------- */
+
+/* A field of n digits, or '=' for none. */
+static size_t add_field(uint8_t *s, size_t n)
+{
+    if (one_in(4)) {
+        s[0] = '=';
+        return 1;
+    }
+    fill_digits(s, n);
+    return n;
+}
+
+/* The characters of a card: PAN, '=', expiry, service code, discretionary data. */
+static size_t make_characters(uint8_t *s)
+{
+    size_t n;
+    make_pan(s, &n);
+    s[n++] = '=';
+    size_t expiry = add_field(s + n, 4);
+    if (expiry == 4 && !one_in(8)) {
+        unsigned month = one_in(6) ? below(14) : between(1, 12);
+        s[n + 2] = (uint8_t)('0' + month / 10);
+        s[n + 3] = (uint8_t)('0' + month % 10);
+    }
+    n += expiry;
+    n += add_field(s + n, 3);
+    size_t rest = below(12);
+    fill_digits(s + n, rest);
+    n += rest;
+    spoil_one_in(6, s, &n);
+    return n;
+}
+
+static void make_layout(struct made *m)
+{
+    m->r.n[0] = make_characters(m->bytes[0]);
+    if (one_in(8))
+        m->r.n[0] = below((uint32_t)m->r.n[0] + 1);
+    spoil_one_in(6, m->bytes[0], &m->r.n[0]);
+}
+
+/* ---- Check pairs -------------------------------------------------------- */
+
+static const char *const registry[] = {
+#define EXAMPLE(text) text,
+#include "examples.inc"
+};
+
+static void put_pair(uint8_t *s, uint32_t pair)
+{
+    s[0] = (uint8_t)('0' + pair / 10);
+    s[1] = (uint8_t)('0' + pair % 10);
+}
+
+/* The pair outside 02 to 98 that leaves the same remainder, where there is one. */
+static uint32_t twin(uint32_t pair)
+{
+    return pair == 2 ? 99 : pair >= 97 ? pair - 97 : pair;
+}
+
+/* Write the pair that passes into a text of four characters and a body; now and
+ * then its twin, for bodies that have one. */
+static void put_made_pair(struct request r, uint8_t *text, size_t n, bool twinned)
+{
+    struct lent l;
+    if (n < 5)
+        return;
+    bool country = r.call == IBAN_MAKE;
+    for (int tries = 0; tries < (twinned ? 200 : 1); tries++) {
+        if (!made_of(&r, &l, country ? text : NULL, text + 4, n - 4))
+            return;
+        put_pair(text + 2, twinned ? twin(l.word[0]) : l.word[0]);
+        if (twin(l.word[0]) != l.word[0])
+            return;
+        if (twinned)
+            text[n - 1] = draw_digit(), text[n - 2] = draw_digit();
+    }
+}
+
+/* A registry's example with another body of the same kinds, mostly. */
+static size_t fill_iban(uint8_t *s)
+{
+    const char *example = registry[below(sizeof registry / sizeof registry[0])];
+    size_t n = strlen(example);
+    memcpy(s, example, n);
+    bool mixed = one_in(3);
+    for (size_t i = 4; i < n; i++) {
+        bool digit = s[i] <= '9';
+        if (mixed && one_in(8))
+            digit = !digit;
+        s[i] = digit ? draw_digit() : draw_capital();
+    }
+    return n;
+}
+
+static void odd_pair(uint8_t *text, size_t n)
+{
+    static const uint8_t odd[] = {0, 1, 2, 97, 98, 99};
+    if (n >= 4 && one_in(16))
+        put_pair(text + 2, odd[below(6)]);
+}
+
+static void make_iban_test(struct made *m)
+{
+    uint8_t *s = m->bytes[0];
+    size_t n = fill_iban(s);
+    put_made_pair((struct request){.call = IBAN_MAKE}, s, n, one_in(16));
+    if (one_in(12)) {
+        n = length_around(5, 34);
+        fill_digits_and_capitals(s, n);
+    }
+    odd_pair(s, n);
+    m->r.n[0] = n;
+    spoil_one_in(3, s, &m->r.n[0]);
+}
+
+static void make_iban_body(struct made *m)
+{
+    uint8_t s[40];
+    size_t n = fill_iban(s) - 4;
+    memcpy(m->bytes[0], s, 2);
+    memcpy(m->bytes[1], s + 4, n);
+    m->r.n[0] = 2;
+    m->r.n[1] = n;
+    if (one_in(6)) {
+        m->r.n[1] = length_around(1, 30);
+        fill_digits_and_capitals(m->bytes[1], m->r.n[1]);
+    }
+    if (one_in(24)) {
+        m->r.n[0] = below(5);
+        fill_digits_and_capitals(m->bytes[0], m->r.n[0]);
+    }
+    spoil_one_in(8, m->bytes[0], &m->r.n[0]);
+    spoil_one_in(4, m->bytes[1], &m->r.n[1]);
+}
+
+static void make_creditor_test(struct made *m)
+{
+    uint8_t *s = m->bytes[0];
+    size_t n = length_around(5, 25);
+    fill_digits_and_capitals(s, n);
+    memcpy(s, "RF00", 4);
+    put_made_pair((struct request){.call = CREDITOR_MAKE}, s, n, one_in(16));
+    odd_pair(s, n);
+    m->r.n[0] = n;
+    spoil_one_in(3, s, &m->r.n[0]);
+    spoil_one_in(12, s, &m->r.n[0]);
+}
+
+static void make_creditor_body(struct made *m)
+{
+    m->r.n[0] = length_around(1, 21);
+    fill_digits_and_capitals(m->bytes[0], m->r.n[0]);
+    spoil_one_in(4, m->bytes[0], &m->r.n[0]);
+}
+
+/* ---- Journals ----------------------------------------------------------- */
+
+static const uint32_t last_serial = UINT32_MAX;
+
+static uint32_t draw_slots(void)
+{
+    if (one_in(100))
+        return 2046 + below(4);
+    return one_in(8) ? between(9, 40) : one_in(3) ? between(1, 2) : between(1, 8);
+}
+
+/* The newest serial: none, few, wrapped, any, or at the last. */
+static uint32_t draw_newest(uint32_t slots)
+{
+    switch (below(6)) {
+    case 0: return below(slots + 1);
+    case 1: return slots - 1 + below(3);
+    case 2: return slots + below(3 * slots);
+    case 3: return last_serial - below(3);
+    case 4: return one_in(2) ? 0 : last_serial - below(2 * slots);
+    default: return (uint32_t)draw();
+    }
+}
+
+static uint32_t draw_amount(void)
+{
+    return one_in(3) ? between(1, 500) : one_in(4) ? UINT32_MAX : (uint32_t)draw() | 1;
+}
+
+static void make_record(uint8_t *slot, uint32_t serial, uint8_t slot_state)
+{
+    uint8_t digits[10];
+    struct record r = {serial, (uint32_t)draw(), draw_amount(), (uint16_t)draw(),
+                       (uint8_t)between(13, 19), slot_state};
+    fill_digits(digits, 10);
+    put_record(slot, &r, digits);
+}
+
+/* A well-formed journal. */
+static void fill_journal(uint8_t *journal, uint32_t slots, uint32_t newest)
+{
+    uint32_t m = newest < slots ? newest : slots;
+    uint32_t held = one_in(4) ? m : one_in(4) ? 0 : below(m + 1);
+    memset(journal, 0, (size_t)slots * SLOT);
+    for (uint32_t i = 0; i < m; i++) {
+        uint32_t serial = newest - i;
+        make_record(journal + (size_t)((serial - 1) % slots) * SLOT, serial, i < held ? 1 : 2);
+    }
+}
+
+/* A field of one record off by little. */
+static void spoil_record(uint8_t *record)
+{
+    uint32_t at = below(SLOT);
+    switch (below(8)) {
+    case 0: record[at] ^= (uint8_t)(1 << below(8)); break;
+    case 1: record[at] = (uint8_t)draw(); break;
+    case 2: record[15] = (uint8_t)below(4); break;
+    case 3: put_number(record + 8, 4, 0); break;
+    case 4: record[14] = one_in(2) ? 12 : 20; break;
+    case 5: record[16 + below(10)] = one_in(2) ? '/' : ':'; break;
+    case 6: record[26 + below(6)] = (uint8_t)between(1, 255); break;
+    default: record[0] = (uint8_t)(record[0] + below(3) - 1); break;
+    }
+}
+
+static void exchange_slots(uint8_t *a, uint8_t *b)
+{
+    for (int i = 0; i < SLOT; i++)
+        exchange(a + i, b + i);
+}
+
+/* The length off by a byte or a slot, or any short one. */
+static void spoil_length(uint8_t *journal, size_t *n)
+{
+    static const int steps[] = {-32, -1, 1, 32};
+    memset(journal + *n, 0, SLOT);
+    *n = *n < 2000 && one_in(2) ? below(66) : *n + (size_t)(ptrdiff_t)steps[below(4)];
+}
+
+/* One record, two records' order or a free slot off. */
+static void spoil_journal(uint8_t *journal, size_t n)
+{
+    uint32_t slots = (uint32_t)(n / SLOT);
+    uint8_t *one = journal + (size_t)below(slots) * SLOT;
+    uint8_t *other = journal + (size_t)below(slots) * SLOT;
+    switch (below(7)) {
+    case 0: exchange_slots(one, other); break;
+    case 1: memset(one, 0, SLOT); break;
+    case 2: exchange(one + 15, other + 15); break;
+    default: spoil_record(one); break;
+    }
+}
+
+static uint32_t make_journal(uint8_t *journal, size_t *n, uint32_t spoiled_one_in)
+{
+    uint32_t slots = draw_slots();
+    uint32_t newest = draw_newest(slots);
+    fill_journal(journal, slots, newest);
+    *n = (size_t)slots * SLOT;
+    for (int i = 0; i < 2; i++)
+        if (one_in(spoiled_one_in))
+            spoil_journal(journal, *n);
+    if (one_in(slots > 2000 ? 2 : 2 * spoiled_one_in))
+        spoil_length(journal, n);
+    return newest;
+}
+
+/* A serial around the newest, the oldest, or none of it. */
+static uint32_t draw_serial(uint32_t newest, uint32_t slots)
+{
+    switch (below(5)) {
+    case 0: return newest + below(3) - 1;
+    case 1: return below(3);
+    case 2: return newest - slots + below(3);
+    case 3: return one_in(4) ? (uint32_t)draw() : last_serial - below(2);
+    default: return newest - below(slots + 1);
+    }
+}
+
+static void make_payment(struct made *m)
+{
+    m->r.label = (uint16_t)draw();
+    m->r.amount = one_in(10) ? 0 : draw_amount();
+    m->r.clock = (uint32_t)draw();
+}
+
+/* What a call on the journal is given beside it. */
+static void make_rest_of_journal_call(struct made *m, uint32_t newest)
+{
+    uint32_t slots = (uint32_t)(m->r.n[0] / SLOT);
+    make_payment(m);
+    m->r.serial = draw_serial(newest, slots);
+    if (m->r.call == JOURNAL_BOOK)
+        make_pan(m->bytes[1], &m->r.n[1]);
+    if (m->r.call == JOURNAL_SURVEY) {
+        m->r.n[1] = one_in(4) ? below(2 * slots + 1) : slots + below(3);
+        fill_any(m->bytes[1], m->r.n[1]);
+    }
+}
+
+static void make_journal_call(struct made *m)
+{
+    uint32_t newest = make_journal(m->bytes[0], &m->r.n[0], m->r.call == JOURNAL_SURVEY ? 2 : 8);
+    make_rest_of_journal_call(m, newest);
+}
+
+/* ---- The swipe ---------------------------------------------------------- */
+
+/* The length of the run of digits that starts a text. */
+static size_t digits_of(const uint8_t *s, size_t n)
+{
+    size_t i = 0;
+    while (i < n && s[i] >= '0' && s[i] <= '9')
+        i++;
+    return i;
+}
+
+/* What a swipe is given beside the journal. */
+static void make_rest_of_swipe(struct made *m)
+{
+    uint8_t chars[64];
+    size_t n = make_characters(chars);
+    make_payment(m);
+    make_stream(m->bytes[0], &m->r.n[0], &m->r.bits, chars, n);
+    for (int i = 1; i < 3; i++)
+        make_table(m->bytes[i], &m->r.n[i], chars, digits_of(chars, n));
+    m->r.n[3] = one_in(12) ? below(37) : 37 + below(4);
+    fill_any(m->bytes[3], m->r.n[3]);
+}
+
+static void make_swipe(struct made *m)
+{
+    make_rest_of_swipe(m);
+    make_journal(m->bytes[4], &m->r.n[4], 12);
+}
+
+/* ---- Requests ----------------------------------------------------------- */
+
+int journal_buffer(enum call call)
+{
+    return call == SWIPE ? 4 : call >= JOURNAL_BOOK ? 0 : -1;
+}
+
+void make_request(struct made *m, enum call call)
+{
+    static void (*const makers[CALLS])(struct made *) = {
+        [LUHN_TEST] = make_luhn_test, [LUHN_MAKE] = make_luhn_body, [PAN_MASK] = make_mask,
+        [RANGE_FIND] = make_range, [TRACK2_READ] = make_track2, [LAYOUT_READ] = make_layout,
+        [IBAN_TEST] = make_iban_test, [IBAN_MAKE] = make_iban_body,
+        [CREDITOR_TEST] = make_creditor_test, [CREDITOR_MAKE] = make_creditor_body,
+        [SWIPE] = make_swipe,
+    };
+    memset(&m->r, 0, sizeof m->r);
+    m->r.call = call;
+    if (makers[call])
+        makers[call](m);
+    else if (call != VERSION)
+        make_journal_call(m);
+}
+
+void make_first_journal(struct made *m)
+{
+    uint32_t slots = one_in(8) ? between(7, 40) : between(1, 6);
+    m->r.n[0] = (size_t)slots * SLOT;
+    memset(m->bytes[0], 0, m->r.n[0]);
+    if (one_in(4))
+        fill_journal(m->bytes[0], slots, last_serial - below(40));
+}
+
+/* The highest serial field, around which a history asks. */
+static uint32_t newest_of(const uint8_t *journal, size_t n)
+{
+    uint32_t newest = 0;
+    for (size_t at = 0; at < n; at += SLOT) {
+        uint32_t s = 0;
+        for (int i = 3; i >= 0; i--)
+            s = s << 8 | journal[at + (size_t)i];
+        newest = s > newest ? s : newest;
+    }
+    return newest;
+}
+
+void make_next_request(struct made *m, const uint8_t *journal, size_t journal_n)
+{
+    static const enum call steps[] = {
+        JOURNAL_BOOK, JOURNAL_BOOK, JOURNAL_BOOK, SWIPE, SWIPE, JOURNAL_RELEASE, JOURNAL_RELEASE,
+        JOURNAL_SHOW, JOURNAL_TELL, JOURNAL_WALK, JOURNAL_SURVEY,
+    };
+    memset(&m->r, 0, sizeof m->r);
+    m->r.call = steps[below(sizeof steps / sizeof steps[0])];
+    int at = journal_buffer(m->r.call);
+    memcpy(m->bytes[at], journal, journal_n);
+    m->r.n[at] = journal_n;
+    if (m->r.call == SWIPE)
+        make_rest_of_swipe(m);
+    else
+        make_rest_of_journal_call(m, newest_of(journal, journal_n));
+}

@@ -1,0 +1,41 @@
+/*
+ * One request to either side: to the library, or to the reference.
+ */
+#ifndef DOOR_H
+#define DOOR_H
+
+#include <stddef.h>
+#include <stdint.h>
+
+enum call {
+    VERSION, LUHN_TEST, LUHN_MAKE, PAN_MASK, RANGE_FIND, TRACK2_READ, LAYOUT_READ,
+    IBAN_TEST, IBAN_MAKE, CREDITOR_TEST, CREDITOR_MAKE,
+    JOURNAL_BOOK, JOURNAL_RELEASE, JOURNAL_SHOW, JOURNAL_TELL, JOURNAL_WALK, JOURNAL_SURVEY,
+    SWIPE, CALLS
+};
+
+enum { BUFFERS = 5, WORDS = 4 };
+
+/* What goes in, the bytes of the lent buffers apart: the buffers stand in the
+ * order in which the call takes them. */
+struct request {
+    enum call call;
+    size_t n[BUFFERS]; /* bytes of each lent buffer */
+    uint64_t bits;
+    uint32_t serial, amount, clock;
+    uint16_t label;
+};
+
+/* What is lent to one side, and what comes back. */
+struct lent {
+    uint8_t *buffer[BUFFERS];
+    uint32_t word[WORDS];
+    uint64_t sum;
+    uint8_t digit;
+};
+
+typedef uint32_t door(const struct request *, struct lent *);
+
+door library_call, reference_call;
+
+#endif

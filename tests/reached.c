@@ -1,0 +1,156 @@
+#include <inttypes.h>
+#include <stdio.h>
+#include "cases.h"
+#include "reached.h"
+
+enum { REASONS = 21, BITS = 4100 };
+
+const char *const call_names[CALLS] = {
+    "version", "luhn_test", "luhn_make", "pan_mask", "range_find", "track2_read", "layout_read",
+    "iban_test", "iban_make", "creditor_test", "creditor_make",
+    "journal_book", "journal_release", "journal_show", "journal_tell", "journal_walk",
+    "journal_survey", "swipe",
+};
+
+/* The reasons that document 01 gives for each call, a bit for each number. */
+#define R(n) (UINT32_C(1) << (n))
+#define READING (R(7) | R(8) | R(9) | R(10) | R(11) | R(12) | R(13))
+static const uint32_t call_reasons[CALLS] = {
+    [LUHN_TEST] = R(2) | R(3) | R(4), [LUHN_MAKE] = R(2) | R(3),
+    [PAN_MASK] = R(1) | R(2) | R(3), [RANGE_FIND] = R(2) | R(3) | R(14) | R(15),
+    [TRACK2_READ] = R(1) | READING, [LAYOUT_READ] = R(6),
+    [IBAN_TEST] = R(2) | R(3) | R(4) | R(5) | R(6), [IBAN_MAKE] = R(2) | R(3) | R(5) | R(6),
+    [CREDITOR_TEST] = R(2) | R(3) | R(4) | R(6), [CREDITOR_MAKE] = R(2) | R(3),
+    [JOURNAL_BOOK] = R(2) | R(3) | R(4) | R(16) | R(17) | R(18) | R(19),
+    [JOURNAL_RELEASE] = R(16) | R(20), [JOURNAL_SHOW] = R(16) | R(20), [JOURNAL_TELL] = R(16),
+    [JOURNAL_WALK] = R(16), [JOURNAL_SURVEY] = R(1) | R(16),
+    [SWIPE] = R(1) | R(4) | R(6) | READING | R(14) | R(15) | R(16) | R(17) | R(18) | R(19),
+};
+
+/* The lengths, first to last by a step, that a lent buffer must have had. */
+struct lengths {
+    enum call call;
+    int buffer;
+    size_t first, last, step;
+};
+
+static const struct lengths call_lengths[] = {
+    {LUHN_TEST, 0, 0, 43, 1}, {LUHN_MAKE, 0, 0, 42, 1},
+    {PAN_MASK, 0, 0, 22, 1}, {PAN_MASK, 1, 0, 22, 1},
+    {RANGE_FIND, 0, 0, 66, 1}, {RANGE_FIND, 0, 65520, 65552, 16}, {RANGE_FIND, 0, 65535, 65537, 1},
+    {RANGE_FIND, 1, 0, 66, 1}, {RANGE_FIND, 1, 65520, 65552, 16}, {RANGE_FIND, 1, 65535, 65537, 1},
+    {RANGE_FIND, 2, 0, 22, 1},
+    {TRACK2_READ, 0, 0, 39, 1}, {TRACK2_READ, 0, 511, 513, 1}, {TRACK2_READ, 1, 0, 44, 1},
+    {LAYOUT_READ, 0, 0, 37, 1},
+    {IBAN_TEST, 0, 0, 37, 1}, {IBAN_MAKE, 0, 0, 4, 1}, {IBAN_MAKE, 1, 0, 33, 1},
+    {CREDITOR_TEST, 0, 0, 28, 1}, {CREDITOR_MAKE, 0, 0, 24, 1},
+    {JOURNAL_BOOK, 0, 0, 65, 1}, {JOURNAL_BOOK, 0, 65504, 65568, 32},
+    {JOURNAL_BOOK, 0, 65535, 65537, 1}, {JOURNAL_BOOK, 1, 0, 22, 1},
+    {JOURNAL_RELEASE, 0, 0, 65, 1}, {JOURNAL_RELEASE, 0, 65504, 65568, 32},
+    {JOURNAL_SHOW, 0, 0, 65, 1}, {JOURNAL_SHOW, 0, 65504, 65568, 32},
+    {JOURNAL_TELL, 0, 0, 65, 1}, {JOURNAL_TELL, 0, 65504, 65568, 32},
+    {JOURNAL_WALK, 0, 0, 65, 1}, {JOURNAL_WALK, 0, 65504, 65568, 32},
+    {JOURNAL_SURVEY, 0, 0, 65, 1}, {JOURNAL_SURVEY, 0, 65504, 65568, 32},
+    {JOURNAL_SURVEY, 1, 0, 42, 1}, {JOURNAL_SURVEY, 1, 2047, 2049, 1},
+    {SWIPE, 1, 0, 66, 1}, {SWIPE, 1, 65520, 65552, 16}, {SWIPE, 2, 65535, 65537, 1},
+    {SWIPE, 3, 0, 40, 1}, {SWIPE, 4, 0, 65, 1}, {SWIPE, 4, 65504, 65568, 32},
+};
+
+static uint64_t reached[CALLS][REASONS];
+static bool had_length[CALLS][BUFFERS][LONGEST];
+static bool had_bits[CALLS][BITS];
+
+void note_reached(const struct request *r, uint32_t answer)
+{
+    if (r->call != VERSION && answer < REASONS)
+        reached[r->call][answer]++;
+    for (int b = 0; b < BUFFERS; b++)
+        had_length[r->call][b][r->n[b]] = true;
+    if (r->bits < BITS)
+        had_bits[r->call][r->bits] = true;
+}
+
+static bool expected(enum call call, int number)
+{
+    return number == 0 || call_reasons[call] & R(number);
+}
+
+static uint64_t print_call(enum call call)
+{
+    uint64_t calls = 0;
+    printf("%-16s", call_names[call]);
+    for (int n = 0; n < REASONS; n++) {
+        calls += reached[call][n];
+        if (expected(call, n))
+            printf(" %d:%" PRIu64, n, reached[call][n]);
+    }
+    printf("\n");
+    return calls;
+}
+
+static void print_refusal(int number)
+{
+    uint64_t times = 0;
+    for (int call = 0; call < CALLS; call++)
+        times += reached[call][number];
+    printf(" %d:%" PRIu64, number, times);
+}
+
+uint64_t print_reached(void)
+{
+    uint64_t calls = 0;
+    printf("answers of each call, 0 and its refusals, and how often each was reached:\n");
+    for (int call = VERSION + 1; call < CALLS; call++)
+        calls += print_call(call);
+    printf("refusals in all:");
+    for (int n = 1; n < REASONS; n++)
+        print_refusal(n);
+    printf("\n");
+    return calls;
+}
+
+bool refusals_reached(void)
+{
+    bool all = true;
+    for (int call = VERSION + 1; call < CALLS; call++)
+        for (int n = 0; n < REASONS; n++) {
+            if (expected(call, n) == (reached[call][n] > 0))
+                continue;
+            printf("%s: %d %s\n", call_names[call], n,
+                   expected(call, n) ? "never reached" : "isn't among its refusals");
+            all = false;
+        }
+    return all;
+}
+
+static bool run_reached(const struct lengths *l)
+{
+    bool all = true;
+    for (size_t n = l->first; n <= l->last; n += l->step)
+        if (!had_length[l->call][l->buffer][n]) {
+            printf("%s: buffer %d never had %zu bytes\n", call_names[l->call], l->buffer, n);
+            all = false;
+        }
+    return all;
+}
+
+static bool bits_reached(enum call call)
+{
+    bool all = true;
+    for (int bits = 0; bits < BITS; bits++) {
+        bool asked = bits < 250 || (bits >= 4094 && bits <= 4097);
+        if (asked && !had_bits[call][bits]) {
+            printf("%s: never %d bits\n", call_names[call], bits);
+            all = false;
+        }
+    }
+    return all;
+}
+
+bool lengths_reached(void)
+{
+    bool all = bits_reached(TRACK2_READ) & bits_reached(SWIPE);
+    for (size_t i = 0; i < sizeof call_lengths / sizeof call_lengths[0]; i++)
+        all = run_reached(&call_lengths[i]) && all;
+    return all;
+}

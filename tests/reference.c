@@ -1,0 +1,857 @@
+/*
+ * A second implementation of document 01 in plain C, written from the paper
+ * alone. The tests hold the library against it, call by call and byte by byte;
+ * the benchmark runs it as the plain C beside the library.
+ *
+ * It defines the functions of goltwarden.h, so that the compiler holds it to the
+ * header. tests/toolchain.sh gives them the prefix ref_ where both are linked.
+ *
+ * -DWRONG=k makes one of the wrong references that the tests must catch: each
+ * SLIP(k, right, wrong) is `right`, and `wrong` in the reference number k.
+ */
+#include <stdbool.h>
+#include <string.h>
+#include "goltwarden.h"
+
+#ifndef WRONG
+#define WRONG 0
+#endif
+#define SLIP(k, right, wrong) (WRONG == (k) ? (wrong) : (right))
+
+uint32_t gw_version(void)
+{
+    return 1;
+}
+
+/* ---- Bytes and numbers -------------------------------------------------- */
+
+static bool within(size_t low, size_t high, size_t n)
+{
+    return low <= n && n <= high;
+}
+
+static bool is_digit(uint8_t c)
+{
+    return within('0', '9', c);
+}
+
+static bool is_capital(uint8_t c)
+{
+    return within('A', 'Z', c);
+}
+
+static bool is_digit_or_capital(uint8_t c)
+{
+    return is_digit(c) || is_capital(c);
+}
+
+typedef bool kind(uint8_t);
+
+static bool every(kind *is, const uint8_t *s, size_t n)
+{
+    for (size_t i = 0; i < n; i++)
+        if (!is(s[i]))
+            return false;
+    return true;
+}
+
+static bool is_zero(uint8_t c)
+{
+    return c == 0;
+}
+
+static uint32_t u32_at(const uint8_t *s)
+{
+    return s[0] | (uint32_t)s[1] << 8 | (uint32_t)s[2] << 16 | (uint32_t)s[3] << 24;
+}
+
+static uint16_t u16_at(const uint8_t *s)
+{
+    return (uint16_t)(s[0] | s[1] << 8);
+}
+
+static void put_u16(uint8_t *s, uint16_t v)
+{
+    s[0] = (uint8_t)v;
+    s[1] = (uint8_t)(v >> 8);
+}
+
+static void put_u32(uint8_t *s, uint32_t v)
+{
+    put_u16(s, (uint16_t)v);
+    put_u16(s + 2, (uint16_t)(v >> 16));
+}
+
+static uint32_t decimal(const uint8_t *s, size_t n)
+{
+    uint32_t v = 0;
+    for (size_t i = 0; i < n; i++)
+        v = 10 * v + (s[i] - '0');
+    return v;
+}
+
+/* ---- Luhn --------------------------------------------------------------- */
+
+/* The sum of a text of digits whose last digit has the place given. */
+static unsigned luhn_sum(const uint8_t *s, size_t n, unsigned place)
+{
+    unsigned sum = 0;
+    bool twice = SLIP(1, (n + place - 1) % 2 == 0, place == 1);
+    for (size_t i = 0; i < n; i++, twice = !twice) {
+        unsigned d = s[i] - '0';
+        unsigned doubled = 2 * d > SLIP(2, 9u, 10u) ? 2 * d - 9 : 2 * d;
+        sum += twice ? doubled : d;
+    }
+    return sum;
+}
+
+static bool luhn_passes(const uint8_t *s, size_t n)
+{
+    return luhn_sum(s, n, 1) % 10 == 0;
+}
+
+uint32_t gw_luhn_test(const uint8_t *text, size_t text_n)
+{
+    if (!within(2, SLIP(3, 40, 39), text_n))
+        return 2;
+    if (!every(is_digit, text, text_n))
+        return 3;
+    return luhn_passes(text, text_n) ? 0 : 4;
+}
+
+uint32_t gw_luhn_make(const uint8_t *body, size_t body_n, uint8_t *digit)
+{
+    if (!within(1, SLIP(4, 39, 40), body_n))
+        return 2;
+    if (!every(is_digit, body, body_n))
+        return 3;
+    unsigned over = luhn_sum(body, body_n, 2) % 10;
+    *digit = (uint8_t)('0' + SLIP(5, (10 - over) % 10, 9 - over));
+    return 0;
+}
+
+/* ---- Card numbers, masking and ranges ----------------------------------- */
+
+static uint32_t pan_refusal(const uint8_t *pan, size_t pan_n)
+{
+    if (!within(SLIP(6, 13, 12), 19, pan_n))
+        return 2;
+    return every(is_digit, pan, pan_n) ? 0 : 3;
+}
+
+uint32_t gw_pan_mask(const uint8_t *pan, size_t pan_n, uint8_t *out, size_t out_n)
+{
+    if (WRONG == 7 && out_n < pan_n)
+        return 1;
+    uint32_t refusal = pan_refusal(pan, pan_n);
+    if (refusal)
+        return refusal;
+    if (out_n < pan_n)
+        return 1;
+    memcpy(out - SLIP(46, 0, 1), pan, 6); /* 46: a byte before the buffer */
+    memset(out + 6, '*', pan_n - 10);
+    memcpy(out + pan_n - 4, pan + pan_n - 4, SLIP(8, 4, 3));
+    return 0;
+}
+
+static bool bad_table(size_t n)
+{
+    return n % 16 != 0 || n > SLIP(9, 65536, 65535);
+}
+
+static bool fits(const uint8_t *record, uint32_t first_eight, size_t pan_n)
+{
+    uint32_t low = u32_at(record), high = u32_at(record + 4);
+    return low <= first_eight && SLIP(10, first_eight <= high, first_eight < high)
+        && within(record[10], record[11], pan_n);
+}
+
+/* The offset of the first fitting record of a table, or its length. */
+static size_t first_fit(const uint8_t *table, size_t n, const uint8_t *pan, size_t pan_n)
+{
+    uint32_t first_eight = SLIP(11, decimal(pan, 8), decimal(pan, 6) * 100);
+    size_t at = 0;
+    while (at < n && !fits(table + at, first_eight, pan_n))
+        at += 16;
+    return at;
+}
+
+struct tables {
+    const uint8_t *site;
+    size_t site_n;
+    const uint8_t *acquirer;
+    size_t acquirer_n;
+};
+
+struct found {
+    uint32_t table; /* 0 the site's, 1 the acquirer's */
+    uint32_t at;
+};
+
+/* The first fitting record of the site's table, else of the acquirer's, or 15. */
+static uint32_t look_up(const struct tables *t, const uint8_t *pan, size_t pan_n,
+                        struct found *f)
+{
+    size_t at = first_fit(t->site, t->site_n, pan, pan_n);
+    f->table = at == t->site_n;
+    if (f->table)
+        at = first_fit(t->acquirer, t->acquirer_n, pan, pan_n);
+    f->at = (uint32_t)at;
+    return f->table && at == t->acquirer_n ? 15 : 0;
+}
+
+static uint16_t label_of(const struct tables *t, const struct found *f)
+{
+    const uint8_t *record = (f->table ? t->acquirer : t->site) + f->at;
+    return SLIP(44, u16_at(record + 8), record[8]);
+}
+
+uint32_t gw_range_find(const uint8_t *site, size_t site_n,
+                       const uint8_t *acquirer, size_t acquirer_n,
+                       const uint8_t *pan, size_t pan_n,
+                       uint32_t *table, uint32_t *at)
+{
+    struct tables t = {site, site_n, acquirer, acquirer_n};
+    struct found f;
+    if (bad_table(site_n) || bad_table(acquirer_n))
+        return 14;
+    uint32_t refusal = pan_refusal(pan, pan_n);
+    if (!refusal)
+        refusal = look_up(&t, pan, pan_n, &f);
+    if (refusal)
+        return refusal;
+    *table = f.table;
+    *at = f.at;
+    return 0;
+}
+
+/* ---- Track 2 from bits -------------------------------------------------- */
+
+struct stream {
+    const uint8_t *bytes;
+    size_t bits;
+    bool reversed;
+    size_t next; /* the place of the next bit to be read */
+};
+
+static size_t bits_left(const struct stream *s)
+{
+    return s->bits - s->next;
+}
+
+static unsigned next_bit(const struct stream *s)
+{
+    size_t i = s->reversed ? s->bits - 1 - s->next : s->next;
+    return s->bytes[i / 8] >> (i % 8) & 1;
+}
+
+/* Five bits, the first lowest. */
+static unsigned next_five(struct stream *s)
+{
+    unsigned five = 0;
+    for (unsigned i = 0; i < 5; i++, s->next++)
+        five |= next_bit(s) << i;
+    return five;
+}
+
+static bool odd_parity(unsigned five)
+{
+    return (five ^ five >> 1 ^ five >> 2 ^ five >> 3 ^ five >> 4) & 1;
+}
+
+/* The next character: its five bits in *five, or 9 or 10. */
+static uint32_t next_character(struct stream *s, unsigned *five)
+{
+    if (bits_left(s) < 5)
+        return 9;
+    *five = next_five(s);
+    return odd_parity(*five) ? 0 : 10;
+}
+
+/* The stream moved to its first one bit, or to its end. */
+static void skip_zeros(struct stream *s)
+{
+    while (bits_left(s) > 0 && !next_bit(s))
+        s->next++;
+}
+
+enum { START = 0x0b, END = 0x1f, DATA = 0x0f };
+
+/* The LRC character, after characters whose data bits gave this exclusive or,
+ * and the zeros after it. */
+static uint32_t read_lrc(struct stream *s, unsigned all)
+{
+    unsigned five;
+    uint32_t refusal = next_character(s, &five);
+    if (refusal)
+        return refusal;
+    if (((five ^ all) & SLIP(13, (unsigned)DATA, 0x1fu)) != 0)
+        return 12;
+    skip_zeros(s);
+    return bits_left(s) == 0 ? 0 : SLIP(12, 13, 0);
+}
+
+/* Reading one way: the characters between the sentinels in `out`. */
+static uint32_t read_one_way(struct stream *s, uint8_t *out, uint32_t *count)
+{
+    unsigned five = START, all = START;
+    skip_zeros(s);
+    if (bits_left(s) < 5 || next_five(s) != START)
+        return 8;
+    for (uint32_t n = 0; ; n++) {
+        uint32_t refusal = next_character(s, &five);
+        if (refusal)
+            return refusal;
+        all ^= SLIP(14, five, five == END ? 0 : five);
+        if (five == END) {
+            *count = n;
+            return read_lrc(s, all);
+        }
+        if (n == SLIP(15, 37, 36))
+            return 11;
+        out[n] = (uint8_t)('0' + (five & DATA));
+    }
+}
+
+/* Reading either way round, into characters of its own. */
+static uint32_t read_track(const uint8_t *bytes, size_t n, uint64_t bits,
+                           uint8_t chars[38], uint32_t *count, bool *reversed)
+{
+    if (bits > SLIP(16, 4096, 4095) || bits > 8 * (uint64_t)n)
+        return 7;
+    struct stream forward = {bytes, bits, false, 0}, back = {bytes, bits, true, 0};
+    *reversed = false;
+    uint32_t one = read_one_way(&forward, chars, count);
+    if (one == 0)
+        return 0;
+    *reversed = true;
+    uint32_t other = read_one_way(&back, chars, count);
+    if (other == 0)
+        return 0;
+    return SLIP(17, one == 8, false) ? other : one;
+}
+
+uint32_t gw_track2_read(const uint8_t *stream, size_t stream_n, uint64_t bits,
+                        uint8_t *out, size_t out_n,
+                        uint32_t *count, uint32_t *reversed)
+{
+    uint8_t chars[38];
+    uint32_t n = 0;
+    bool turned;
+    if (out_n < SLIP(18, 37, 38))
+        return 1;
+    uint32_t refusal = read_track(stream, stream_n, bits, chars, &n, &turned);
+    if (refusal)
+        return refusal;
+    memcpy(out, chars, n);
+    *count = n;
+    *reversed = turned;
+    return 0;
+}
+
+/* ---- Layout between the sentinels --------------------------------------- */
+
+struct layout {
+    uint32_t pan_n, expiry_at, service_at, rest_at;
+};
+
+static bool is_month(const uint8_t *two)
+{
+    return within(SLIP(19, 1, 0), 12, decimal(two, 2));
+}
+
+/* A field of n digits at *at, or '=' for none: its offset, 0 for none, in
+ * *field, and *at moved past it. */
+static bool read_field(const uint8_t *chars, size_t chars_n, size_t n,
+                       uint32_t *at, uint32_t *field)
+{
+    *field = 0;
+    if (*at < chars_n && chars[*at] == '=') {
+        *at += 1;
+        return true;
+    }
+    if (chars_n - *at < n || !every(is_digit, chars + *at, n))
+        return false;
+    *field = *at;
+    *at += (uint32_t)n;
+    return true;
+}
+
+static bool read_layout(const uint8_t *chars, size_t n, struct layout *l)
+{
+    uint32_t at = 0;
+    while (at < n && at < 20 && is_digit(chars[at]))
+        at++;
+    l->pan_n = at;
+    if (!within(13, SLIP(20, 19, 18), at) || at == n || chars[at] != '=')
+        return false;
+    at++;
+    if (!read_field(chars, n, 4, &at, &l->expiry_at))
+        return false;
+    if (l->expiry_at && !is_month(chars + l->expiry_at + 2))
+        return false;
+    if (!read_field(chars, n, 3, &at, &l->service_at))
+        return false;
+    l->rest_at = at;
+    return every(is_digit, chars + at, n - at);
+}
+
+uint32_t gw_layout_read(const uint8_t *chars, size_t chars_n,
+                        uint32_t *pan_n, uint32_t *expiry_at,
+                        uint32_t *service_at, uint32_t *rest_at)
+{
+    struct layout l;
+    if (!read_layout(chars, chars_n, &l))
+        return 6;
+    *pan_n = l.pan_n;
+    *expiry_at = l.expiry_at;
+    *service_at = l.service_at;
+    *rest_at = l.rest_at;
+    return 0;
+}
+
+/* ---- Check pairs modulo 97 ---------------------------------------------- */
+
+/* The remainder once the numbers of these characters are written after a number
+ * that leaves r. */
+static unsigned remainder_after(unsigned r, const uint8_t *s, size_t n)
+{
+    for (size_t i = 0; i < n; i++)
+        r = is_digit(s[i]) ? (10 * r + (s[i] - '0')) % 97
+                           : (100 * r + (s[i] - 'A' + SLIP(21, 10u, 11u))) % 97;
+    return r;
+}
+
+/* The remainder of a text whose first four characters are moved to the end. */
+static unsigned moved_remainder(const uint8_t *text, size_t n)
+{
+    return remainder_after(remainder_after(0, text + 4, n - 4), text, 4);
+}
+
+static bool pair_passes(const uint8_t *text, size_t n)
+{
+    uint32_t pair = decimal(text + 2, 2);
+    return within(SLIP(22, 2, 0), SLIP(23, 98, 99), pair) && moved_remainder(text, n) == 1;
+}
+
+/* 98 less the remainder with 00 in the check places. */
+static uint32_t made_pair(const uint8_t *country, const uint8_t *body, size_t n)
+{
+    unsigned r = remainder_after(remainder_after(0, body, n), country, 2);
+    return 98 - SLIP(24, r * 100, r * 10) % 97;
+}
+
+struct run {
+    uint8_t kind; /* 'n' digit, 'a' capital, 'c' digit or capital */
+    uint8_t count;
+};
+
+struct row {
+    const char *countries; /* two letters each */
+    struct run runs[3];
+};
+
+static const struct row rows[] = {
+    {"NO", {{'n', 11}}},
+    {"BE", {{'n', 12}}},
+    {"DKFI", {{'n', 14}}},
+    {"SI", {{'n', 15}}},
+    {"ATEELT", {{'n', 16}}},
+    {"HR", {{'n', 17}}},
+    {"DE", {{'n', 18}}},
+    {"CZESSESK", {{'n', 20}}},
+    {"PT", {{'n', 21}}},
+    {"IS", {{'n', 22}}},
+    {"HUPL", {{'n', 24}}},
+    {"NL", {{'a', 4}, {'n', 10}}},
+    {"GBIE", {{'a', 4}, {'n', 14}}},
+    {"LV", {{'a', 4}, {'c', 13}}},
+    {"RO", {{'a', 4}, {'c', 16}}},
+    {"BG", {{'a', 4}, {'n', 6}, {'c', 8}}},
+    {"MT", {{'a', 4}, {'n', 5}, {'c', 18}}},
+    {"CHLI", {{'n', 5}, {'c', 12}}},
+    {"LU", {{'n', 3}, {'c', 13}}},
+    {"CY", {{'n', 8}, {'c', 16}}},
+    {"GR", {{'n', 7}, {'c', SLIP(25, 16, 17)}}},
+    {"FRMC", {{'n', 10}, {'c', 11}, {'n', 2}}},
+    {"ITSM", {{'a', 1}, {'n', 10}, {'c', SLIP(26, 12, 11)}}},
+};
+
+static const struct row *row_of(const uint8_t *country)
+{
+    for (size_t i = 0; i < sizeof rows / sizeof rows[0]; i++)
+        for (const char *c = rows[i].countries; *c; c += 2)
+            if (c[0] == country[0] && c[1] == country[1])
+                return &rows[i];
+    return NULL;
+}
+
+static kind *kind_of(uint8_t letter)
+{
+    return letter == 'n' ? is_digit : letter == 'a' ? is_capital : is_digit_or_capital;
+}
+
+static bool has_structure(const struct row *row, const uint8_t *body, size_t n)
+{
+    size_t at = 0;
+    for (int i = 0; i < 3 && row->runs[i].count; i++) {
+        size_t count = row->runs[i].count;
+        if (n - at < count || !every(kind_of(row->runs[i].kind), body + at, count))
+            return false;
+        at += count;
+    }
+    return at == n;
+}
+
+uint32_t gw_iban_test(const uint8_t *text, size_t text_n)
+{
+    if (!within(5, SLIP(27, 34, 33), text_n))
+        return 2;
+    if (!every(is_digit_or_capital, text, text_n))
+        return 3;
+    const struct row *row = row_of(text);
+    if (!row)
+        return 5;
+    if (!every(is_digit, text + 2, 2) || !has_structure(row, text + 4, text_n - 4))
+        return 6;
+    return pair_passes(text, text_n) ? 0 : 4;
+}
+
+uint32_t gw_iban_make(const uint8_t *country, size_t country_n,
+                      const uint8_t *body, size_t body_n, uint32_t *pair)
+{
+    if (country_n != 2 || !within(1, 30, body_n))
+        return 2;
+    if (!every(is_digit_or_capital, country, 2) || !every(is_digit_or_capital, body, body_n))
+        return 3;
+    const struct row *row = row_of(country);
+    if (!row)
+        return 5;
+    if (!has_structure(row, body, body_n))
+        return 6;
+    *pair = made_pair(country, body, body_n);
+    return 0;
+}
+
+uint32_t gw_creditor_test(const uint8_t *text, size_t text_n)
+{
+    if (!within(5, 25, text_n))
+        return 2;
+    bool starts = text[0] == 'R' && text[1] == 'F' && every(is_digit, text + 2, 2);
+    if (WRONG == 28 && !starts)
+        return 6;
+    if (!every(is_digit_or_capital, text, text_n))
+        return 3;
+    if (!starts)
+        return 6;
+    return pair_passes(text, text_n) ? 0 : 4;
+}
+
+uint32_t gw_creditor_make(const uint8_t *body, size_t body_n, uint32_t *pair)
+{
+    if (!within(1, SLIP(29, 21, 22), body_n))
+        return 2;
+    if (!every(is_digit_or_capital, body, body_n))
+        return 3;
+    *pair = made_pair((const uint8_t *)"RF", body, body_n);
+    return 0;
+}
+
+/* ---- The journal -------------------------------------------------------- */
+
+enum { SLOT = 32, FREE = 0, HELD = 1, RELEASED = 2, DAMAGED = 3 };
+#define LAST_SERIAL UINT32_C(4294967295)
+
+/* Where the fields of a record stand. */
+enum { CLOCK = 4, AMOUNT = 8, LABEL = 12, PAN_LENGTH = 14, STATE = 15, FRONT = 16, BACK = 22,
+       ZEROS = 26 };
+
+/* What a well-formed journal holds: m records, the newest with serial b. */
+struct view {
+    uint32_t slots;
+    uint32_t b, m;
+    uint32_t held; /* the held records are the newest ones, these many */
+    uint32_t first; /* the slot of serial b - m + 1 */
+};
+
+static bool is_record(const uint8_t *record)
+{
+    return (record[STATE] == HELD || record[STATE] == RELEASED)
+        && u32_at(record + AMOUNT) > 0
+        && within(13, 19, record[PAN_LENGTH])
+        && every(is_digit, record + FRONT, ZEROS - FRONT)
+        && every(is_zero, record + ZEROS, SLIP(30, SLOT - ZEROS, 5));
+}
+
+static bool slots_of(size_t n, uint32_t *slots)
+{
+    *slots = (uint32_t)(n / SLOT);
+    return n % SLOT == 0 && within(1, SLIP(31, 2048, 2047), n / SLOT);
+}
+
+static uint32_t highest_serial(const uint8_t *journal, uint32_t slots)
+{
+    uint32_t b = 0;
+    for (uint32_t i = 0; i < slots + SLIP(47, 0, 1); i++) { /* 47: past the buffer's end */
+        uint32_t s = u32_at(journal + i * SLOT);
+        b = s > b ? s : b;
+    }
+    return b;
+}
+
+static uint32_t slot_after(uint32_t slot, uint32_t slots)
+{
+    return slot + 1 == slots ? 0 : slot + 1;
+}
+
+/* The m newest stand in their slots, and no released one has a higher serial
+ * than a held one; v->held counts them. */
+static bool records_stand(const uint8_t *journal, struct view *v)
+{
+    uint32_t slot = v->first;
+    v->held = 0;
+    for (uint32_t i = 0; i < v->m; i++, slot = slot_after(slot, v->slots)) {
+        const uint8_t *record = journal + (size_t)slot * SLOT;
+        if (u32_at(record) != v->b - v->m + 1 + i || !is_record(record))
+            return false;
+        if (WRONG == 45 && slot > 0 && u32_at(record + CLOCK) < u32_at(record + CLOCK - SLOT))
+            return false; /* a clock compared */
+        if (record[STATE] == HELD)
+            v->held++;
+        else if (SLIP(32, v->held > 0, false))
+            return false;
+    }
+    return true;
+}
+
+/* Well formed: the view, or false. The newest serial can only be the highest. */
+static bool look(const uint8_t *journal, size_t n, struct view *v)
+{
+    if (!slots_of(n, &v->slots))
+        return false;
+    v->b = highest_serial(journal, v->slots);
+    v->m = v->b < v->slots ? v->b : v->slots;
+    v->first = (v->b - v->m) % v->slots;
+    if (!records_stand(journal, v))
+        return false;
+    return SLIP(33, every(is_zero, journal + (size_t)v->m * SLOT, n - (size_t)v->m * SLOT), true);
+}
+
+/* The slot of a serial that is among the m newest. */
+static uint32_t slot_of(const struct view *v, uint32_t serial)
+{
+    return (serial - 1) % v->slots;
+}
+
+/* The oldest held serial, where one is held. */
+static uint32_t first_held(const struct view *v)
+{
+    return v->b - v->held + 1;
+}
+
+/* 19, then 18. */
+static uint32_t no_room(const struct view *v)
+{
+    if (v->b == LAST_SERIAL)
+        return SLIP(34, 19, 18);
+    return SLIP(35, v->held, v->m) == v->slots ? 18 : 0;
+}
+
+static void write_record(uint8_t *record, uint32_t serial, const uint8_t *pan, size_t pan_n,
+                         uint16_t label, uint32_t amount, uint32_t clock)
+{
+    put_u32(record, serial);
+    put_u32(record + CLOCK, clock);
+    put_u32(record + AMOUNT, amount);
+    put_u16(record + LABEL, label);
+    record[PAN_LENGTH] = (uint8_t)pan_n;
+    memcpy(record + FRONT, pan, 6);
+    memcpy(record + BACK, pan + pan_n - 4, 4);
+    memset(record + ZEROS, 0, SLOT - ZEROS);
+    record[STATE] = SLIP(36, HELD, RELEASED);
+}
+
+/* Book into a journal that has room. */
+static uint32_t book(uint8_t *journal, const struct view *v, const uint8_t *pan, size_t pan_n,
+                     uint16_t label, uint32_t amount, uint32_t clock)
+{
+    uint32_t serial = v->b + 1;
+    uint8_t *record = journal + (size_t)slot_of(v, serial) * SLOT;
+    write_record(record, serial, pan, pan_n, label, amount, clock);
+    return serial;
+}
+
+uint32_t gw_journal_book(uint8_t *journal, size_t journal_n,
+                         const uint8_t *pan, size_t pan_n,
+                         uint16_t label, uint32_t amount, uint32_t clock,
+                         uint32_t *serial)
+{
+    struct view v;
+    if (!look(journal, journal_n, &v))
+        return 16;
+    uint32_t refusal = pan_refusal(pan, pan_n);
+    if (refusal)
+        return refusal;
+    if (!luhn_passes(pan, pan_n))
+        return 4;
+    if (amount == 0)
+        return 17;
+    refusal = no_room(&v);
+    if (refusal)
+        return refusal;
+    *serial = book(journal, &v, pan, pan_n, label, amount, clock);
+    return 0;
+}
+
+uint32_t gw_journal_release(uint8_t *journal, size_t journal_n, uint32_t serial,
+                            uint32_t *count, uint64_t *sum)
+{
+    struct view v;
+    if (!look(journal, journal_n, &v))
+        return 16;
+    if (serial == 0 || serial > v.b)
+        return 20;
+    uint32_t oldest = first_held(&v);
+    bool none = v.held == 0 || serial < oldest;
+    uint32_t turned = none ? 0 : serial - oldest + SLIP(37, 1, 0);
+    uint32_t slot = none ? 0 : slot_of(&v, oldest);
+    uint64_t total = 0;
+    for (uint32_t i = 0; i < turned; i++, slot = slot_after(slot, v.slots)) {
+        uint8_t *record = journal + (size_t)slot * SLOT;
+        record[STATE] = RELEASED;
+        total += u32_at(record + AMOUNT);
+    }
+    *count = turned;
+    *sum = SLIP(38, total, (uint32_t)total);
+    return 0;
+}
+
+uint32_t gw_journal_show(const uint8_t *journal, size_t journal_n,
+                         uint32_t serial, uint32_t *at)
+{
+    struct view v;
+    if (!look(journal, journal_n, &v))
+        return 16;
+    if (v.held == 0 || serial < first_held(&v) || serial > v.b)
+        return 20;
+    *at = slot_of(&v, serial) * SLOT;
+    return 0;
+}
+
+uint32_t gw_journal_tell(const uint8_t *journal, size_t journal_n,
+                         uint32_t *count, uint64_t *sum,
+                         uint32_t *oldest, uint32_t *newest)
+{
+    struct view v;
+    if (!look(journal, journal_n, &v))
+        return 16;
+    uint64_t total = 0;
+    for (uint32_t i = 0; i < v.m; i++) {
+        const uint8_t *record = journal + (size_t)i * SLOT;
+        total += record[STATE] == HELD ? u32_at(record + AMOUNT) : 0;
+    }
+    *count = v.held;
+    *sum = total;
+    *oldest = v.held ? first_held(&v) : SLIP(39, 0, v.b);
+    *newest = v.b;
+    return 0;
+}
+
+uint32_t gw_journal_walk(const uint8_t *journal, size_t journal_n, uint32_t after,
+                         uint32_t *serial, uint32_t *at)
+{
+    struct view v;
+    if (!look(journal, journal_n, &v))
+        return 16;
+    bool done = v.held == 0 || SLIP(40, after >= v.b, after > v.b);
+    uint32_t next = done ? 0 : after < first_held(&v) ? first_held(&v) : after + 1;
+    *serial = next;
+    *at = done ? 0 : slot_of(&v, next) * SLOT;
+    return 0;
+}
+
+/* What a slot's own 32 bytes say, its serial belonging in it or not. */
+static uint8_t slot_state(const uint8_t *record, uint32_t slot, uint32_t slots)
+{
+    if (every(is_zero, record, SLOT))
+        return FREE;
+    uint32_t serial = u32_at(record);
+    bool belongs = serial > 0 && SLIP(41, (serial - 1) % slots == slot, true);
+    return belongs && is_record(record) ? record[STATE] : DAMAGED;
+}
+
+uint32_t gw_journal_survey(const uint8_t *journal, size_t journal_n,
+                           uint8_t *states, size_t states_n, uint32_t *formed)
+{
+    struct view v;
+    uint32_t slots;
+    if (!slots_of(journal_n, &slots))
+        return 16;
+    if (states_n < slots)
+        return 1;
+    for (uint32_t i = 0; i < slots; i++)
+        states[i] = slot_state(journal + (size_t)i * SLOT, i, slots);
+    *formed = look(journal, journal_n, &v);
+    return 0;
+}
+
+/* ---- The swipe ---------------------------------------------------------- */
+
+/* What stands before the reading: 16, 14, 17, 19, 18. */
+static uint32_t before_reading(const uint8_t *journal, size_t n, const struct tables *t,
+                               uint32_t amount, struct view *v)
+{
+    if (WRONG == 42 && amount == 0)
+        return 17;
+    if (!look(journal, n, v))
+        return 16;
+    if (bad_table(t->site_n) || bad_table(t->acquirer_n))
+        return 14;
+    if (amount == 0)
+        return 17;
+    return no_room(v);
+}
+
+/* The reading's refusals, 6, 4, 15; or the PAN at the start of `chars`, its
+ * length in *l, and its range in *f. */
+static uint32_t read_card(const uint8_t *stream, size_t stream_n, uint64_t bits,
+                          const struct tables *t, uint8_t chars[38],
+                          struct layout *l, struct found *f)
+{
+    uint32_t count = 0;
+    bool reversed;
+    uint32_t refusal = read_track(stream, stream_n, bits, chars, &count, &reversed);
+    if (refusal)
+        return refusal;
+    if (!read_layout(chars, count, l))
+        return 6;
+    if (!luhn_passes(chars, l->pan_n))
+        return 4;
+    return look_up(t, chars, l->pan_n, f);
+}
+
+uint32_t gw_swipe(const uint8_t *stream, size_t stream_n, uint64_t bits,
+                  const uint8_t *site, size_t site_n,
+                  const uint8_t *acquirer, size_t acquirer_n,
+                  uint32_t amount, uint32_t clock,
+                  uint8_t *scratch, size_t scratch_n,
+                  uint8_t *journal, size_t journal_n,
+                  uint32_t *serial)
+{
+    struct tables t = {site, site_n, acquirer, acquirer_n};
+    struct view v;
+    struct layout l;
+    struct found f;
+    uint8_t chars[38];
+    if (scratch_n < 37)
+        return 1;
+    uint32_t refusal = before_reading(journal, journal_n, &t, amount, &v);
+    if (WRONG != 43 || !refusal)
+        memset(scratch, 0, 37);
+    if (!refusal)
+        refusal = read_card(stream, stream_n, bits, &t, chars, &l, &f);
+    if (refusal)
+        return refusal;
+    *serial = book(journal, &v, chars, l.pan_n, label_of(&t, &f), amount, clock);
+    return 0;
+}
