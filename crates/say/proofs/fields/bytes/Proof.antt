@@ -1,0 +1,51 @@
+-- `bytes`: what is understood fits into the room. Assumes nothing.
+use borrow.Author.Needs.{needs}
+use native.Mathlib.Omega.{arith}
+use Rattle.script.proofs.Laws.{bytes-fit}
+use Rattle.say.proofs.fields.bytes.Statement.{statement}
+use Rattle.say.proofs.fields.bytes.Tie as tie
+
+word-requires : tie.Need-word-requires
+word-requires c κs = search needs
+
+text-of-requires : tie.Need-text-of-requires
+text-of-requires c κs = search needs
+
+bytes-in-requires : tie.Need-bytes-in-requires
+bytes-in-requires c κs = search needs
+
+enum-known-length : tie.Need-enum-known-length
+enum-known-length c = search needs
+
+enum-known-why : tie.Need-enum-known-why
+enum-known-why c = search needs
+
+unclear-word-requires : tie.Need-unclear-word-requires
+unclear-word-requires c κs = search needs
+
+same-length : tie.Need-same-length
+same-length c = search needs
+
+returns : tie.Need-returns
+returns c = let h = bytes-fit _ _ _ _ (c .before .before .before .before .before .bytes-in .ensures .0) (c .before .length .given .1) in omega arith
+
+same-length-2 : tie.Need-same-length-2
+same-length-2 c = search needs
+
+returns-2 : tie.Need-returns-2
+returns-2 c = search needs
+
+pub bytes-spec : {M : Type 1} → statement M
+bytes-spec =
+    tie.close
+    (tie.spec
+    word-requires
+    text-of-requires
+    bytes-in-requires
+    enum-known-length
+    enum-known-why
+    unclear-word-requires
+    same-length
+    returns
+    same-length-2
+    returns-2)

@@ -1,0 +1,38 @@
+-- `number`: what is understood is no more than the field holds. Assumes nothing.
+use borrow.Author.Needs.{needs}
+use Rattle.script.proofs.Laws.{number-fits}
+use Rattle.say.proofs.fields.number.Statement.{statement}
+use Rattle.say.proofs.fields.number.Tie as tie
+
+word-requires : tie.Need-word-requires
+word-requires c κs = search needs
+
+number-in-requires : tie.Need-number-in-requires
+number-in-requires c κs = search needs
+
+enum-known-value : tie.Need-enum-known-value
+enum-known-value c = search needs
+
+enum-known-why : tie.Need-enum-known-why
+enum-known-why c = search needs
+
+unclear-word-requires : tie.Need-unclear-word-requires
+unclear-word-requires c κs = search needs
+
+returns : tie.Need-returns
+returns c = number-fits _ _ _ _ (c .before .before .before .number-in .ensures) (c .before .value .given .1)
+
+returns-2 : tie.Need-returns-2
+returns-2 c = search needs
+
+pub number-spec : {M : Type 1} → statement M
+number-spec =
+    tie.close
+    (tie.spec
+    word-requires
+    number-in-requires
+    enum-known-value
+    enum-known-why
+    unclear-word-requires
+    returns
+    returns-2)

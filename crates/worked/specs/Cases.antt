@@ -1,0 +1,114 @@
+-- The worked cases of document 01, as a list, and what it means that a case holds: over the definitions that the promises use. Assumes nothing.
+use Prim.Native.Nat.{ℕ, _+_, _-_, _*_, _%_}
+use Prim.Native.String.{String}
+use mathlib.Core.Path.{_≡_}
+use mathlib.Core.Bool.{Bool, true, false}
+use mathlib.Core.List.{List, [], _∷_, _++_}
+use lib.Bits.{bitXor}
+use lib.Dec.{eqb}
+use lib.ListN.{length, replicate}
+use Rattle.text.specs.Bytes.{bytesOf}
+use Rattle.reasons.specs.Reasons.{gives, refuses}
+use Rattle.luhn.specs.Luhn.{luhnRule}
+use Rattle.pan.specs.Pan.{masked}
+use Rattle.creditor.specs.Creditor.{creditorRule}
+use Rattle.iban.specs.Iban.{ibanRule}
+use Rattle.bits.specs.Stream.{ones}
+use Rattle.bits.specs.Reading.{readOne}
+use Rattle.bits.specs.Shape.{bitsOf}
+use Rattle.track2.specs.Track2.{track2}
+use Rattle.journal.specs.Rules.{Books, saidBooked}
+use Rattle.journal.specs.declared.Booked.{Booked}
+
+-- ---- a track as it is written
+
+-- the five bits of a character: "four data bits, lowest first, then one making the count of ones odd"
+abbrev pub character : ℕ → List Bool
+character n = bitsOf 4 n ++ (eqb (ones (bitsOf 4 n) % 2) 0 ∷ [])
+
+abbrev pub characters : List ℕ → List Bool
+characters [] = []
+characters (b ∷ s) = character (b - 48) ++ characters s
+
+-- "the exclusive or of the data bits of all characters"
+abbrev pub lrcOf : List ℕ → ℕ
+lrcOf [] = 0
+lrcOf (b ∷ s) = bitXor (b - 48) (lrcOf s)
+
+-- ---- the cases
+
+pub data Case : Type 0 where
+  -- a text passes Luhn; it doesn't, for its check digit
+  luhn-passes : String → Case
+  luhn-fails : String → Case
+  -- a creditor reference, an IBAN passes
+  creditor-passes : String → Case
+  iban-passes : String → Case
+  -- the track's characters with both sentinels: the LRC's number and bits, the count of characters and of bits with the LRC
+  track : String → ℕ → List Bool → ℕ → ℕ → Case
+  -- masking a PAN gives a text
+  masks : String → String → Case
+  -- booking a PAN with label, amount and clock in one empty slot leaves these bytes
+  books : String → ℕ → ℕ → ℕ → List ℕ → Case
+
+-- a track holds where it has this LRC and these counts, and, written so, reads forward as what stands between its sentinels
+pub record TrackHolds (text between : List ℕ) (lrc : ℕ) (bits : List Bool) (count bit-count : ℕ) : Type 0 where
+  pub lrc-number : lrcOf text ≡ lrc
+  pub lrc-bits : character lrc ≡ bits
+  pub character-count : length text + 1 ≡ count
+  pub bits-count : length (characters text ++ character lrc) ≡ bit-count
+  pub reads : readOne track2 (characters text ++ character lrc) ≡ gives between
+
+-- what stands between the first and the last character
+abbrev pub inner : List ℕ → List ℕ
+inner [] = []
+inner (b ∷ s) = butLast s
+  where
+    butLast : List ℕ → List ℕ
+    butLast [] = []
+    butLast (c ∷ []) = []
+    butLast (c ∷ (d ∷ t)) = c ∷ butLast (d ∷ t)
+
+abbrev pub Holds : Case → Type 0
+Holds (luhn-passes t) = luhnRule (bytesOf t) ≡ gives tt
+Holds (luhn-fails t) = luhnRule (bytesOf t) ≡ refuses 4
+Holds (creditor-passes t) = creditorRule (bytesOf t) ≡ gives tt
+Holds (iban-passes t) = ibanRule (bytesOf t) ≡ gives tt
+Holds (track t lrc bits count bit-count) = TrackHolds (bytesOf t) (inner (bytesOf t)) lrc bits count bit-count
+Holds (masks pan text) = masked (bytesOf pan) ≡ bytesOf text
+Holds (books pan label amount clock bytes) =
+    (r : Booked) (k : List ℕ) → Books (replicate 32 0) (bytesOf pan) label amount clock r k → (saidBooked r ≡ gives 1) × (k ≡ bytes)
+
+-- every case of a list holds
+infixr 60 _and_
+pub data All : List Case → Type 0 where
+  all : All []
+  _and_ : {c : Case} {cs : List Case} → Holds c → All cs → All (c ∷ cs)
+
+-- "`;4111111111111111=2512101?` has LRC 8, bits 00010, in all 27 characters, 135 bits"
+abbrev pub w11Case : Case
+w11Case = track ";4111111111111111=2512101?" 8 (false ∷ false ∷ false ∷ true ∷ false ∷ []) 27 135
+
+-- the paper's W1 to W13
+abbrev pub cases : List Case
+cases =
+    luhn-passes "4111111111111111"
+    ∷ luhn-passes "378282246310005"
+    ∷ luhn-passes "18"
+    ∷ luhn-fails "81"
+    ∷ luhn-passes "091"
+    ∷ luhn-passes "901"
+    ∷ luhn-passes "224"
+    ∷ luhn-passes "554"
+    ∷ creditor-passes "RF18539007547034"
+    ∷ creditor-passes "RF14B1"
+    ∷ creditor-passes "RF141B"
+    ∷ iban-passes "GB82WEST12345698765432"
+    ∷ iban-passes "DE89370400440532013000"
+    ∷ iban-passes "FR1420041010050500013M02606"
+    ∷ w11Case
+    ∷ masks "4111111111111111" "411111******1111"
+    ∷ books "4111111111111111" 7 250 0
+    (1 ∷ 0 ∷ 0 ∷ 0 ∷ 0 ∷ 0 ∷ 0 ∷ 0 ∷ 0xFA ∷ 0 ∷ 0 ∷ 0 ∷ 7 ∷ 0 ∷ 0x10 ∷ 1
+    ∷ 0x34 ∷ 0x31 ∷ 0x31 ∷ 0x31 ∷ 0x31 ∷ 0x31 ∷ 0x31 ∷ 0x31 ∷ 0x31 ∷ 0x31 ∷ 0 ∷ 0 ∷ 0 ∷ 0 ∷ 0 ∷ 0 ∷ [])
+    ∷ []
