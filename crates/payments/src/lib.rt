@@ -1,0 +1,406 @@
+// The commands on the journal, in memory or in a file: slots, survey, book, swipe, release, show, tell, held.
+use journal::Booked;
+use journal::Released;
+use journal::Shown;
+use journal::Surveyed;
+use journal::Told;
+use reasons::Reason;
+use say::fields;
+use slots::Newest;
+use swipe::Swiped;
+ghost use Prim.Native.Nat.{_+_, _≤_, _<_};
+ghost use lib.ListN.{length};
+ghost use Rattle.slots.specs.Journal.{Formed, slotsOf};
+
+// Where the journal is kept: in memory alone, or in a file too.
+pub struct Place {
+    pub filed: bool,
+    pub fd: i32,
+}
+
+// ---- slots
+
+fn clear(journal: &mut [u8]) {
+    let mut i = 0;
+    while i < journal.len() {
+        journal[i] = 0;
+        i += 1;
+    }
+}
+
+// A new, empty journal in memory: its length, 0 where the line isn't understood.
+pub fn slots(line: &[u8], journal: &mut [u8]) -> usize
+    ensures { λ r. ⌜ r ≤ 65536 ⌝ }
+{
+    let field = fields::number(line, 1, 4294967295);
+    let known = field.clear;
+    if !known {
+        return 0;
+    }
+    let n = field.value;
+    if n == 0 {
+        fields::unclear(b"slots are 1 to 2048");
+        return 0;
+    }
+    if 2048 < n {
+        fields::unclear(b"slots are 1 to 2048");
+        return 0;
+    }
+    clear(journal);
+    say::words(b"slots ");
+    say::number(n);
+    say::line();
+    32 * (n as usize)
+}
+
+// ---- survey
+
+// How many slots say x of themselves.
+fn how_many(states: &[u8], x: u8) -> usize {
+    let mut n = 0;
+    let mut i = 0;
+    while i < states.len() {
+        if states[i] == x {
+            n += 1;
+        }
+        i += 1;
+    }
+    n
+}
+
+fn damaged_slot(journal: &[u8], k: usize)
+    requires { ⌜ k ≤ 2048 ⌝ }
+{
+    say::words(b"damaged ");
+    say::number(k as u64);
+    say::words(b" ");
+    say::hex(script::piece(journal, 32 * k, 32));
+    say::line();
+}
+
+fn damaged(journal: &[u8], states: &[u8])
+    requires { ⌜ length (now states) ≤ 2048 ⌝ }
+{
+    let mut k = 0;
+    while k < states.len() {
+        if states[k] == 3 {
+            damaged_slot(journal, k);
+        }
+        k += 1;
+    }
+}
+
+fn report(journal: &[u8], states: &[u8], form: &[u8])
+    requires { ⌜ length (now states) ≤ 2048 ⌝ }
+{
+    damaged(journal, states);
+    say::words(b"free ");
+    say::number(how_many(states, 0) as u64);
+    say::words(b" held ");
+    say::number(how_many(states, 1) as u64);
+    say::words(b" released ");
+    say::number(how_many(states, 2) as u64);
+    say::words(b" damaged ");
+    say::number(how_many(states, 3) as u64);
+    say::words(form);
+}
+
+// As many states as there are slots.
+fn surveyed<'a>(journal: &[u8], states: &'a [u8]) -> &'a [u8]
+    requires { ⌜ length (now states) ≤ 2048 ⌝ }
+    ensures { λ r. ⌜ length (now r) ≤ 2048 ⌝ }
+{
+    let n = journal.len() / 32;
+    if n < states.len() {
+        return &states[0..n];
+    }
+    states
+}
+
+fn survey_in(journal: &[u8], states: &mut [u8])
+    requires { ⌜ length (now states) ≤ 2048 ⌝ }
+{
+    match journal::survey(journal, states) {
+        Surveyed::Formed => report(journal, surveyed(journal, states), b" well formed\n"),
+        Surveyed::Malformed => report(journal, surveyed(journal, states), b" not well formed\n"),
+        Surveyed::Refused(why) => say::refused(why),
+    }
+}
+
+pub fn survey(journal: &[u8]) {
+    let mut states = [0u8; 2048];
+    survey_in(journal, &mut states);
+}
+
+// ---- book and swipe: these, and a release, answer whether the journal can be used any more. One that could not be written can't, so
+// that nothing is told that the file may not hold.
+
+// Answers a booking once it is on the disk.
+fn booked(journal: &[u8], serial: u32, at: Place) -> bool {
+    let filed = at.filed;
+    if filed {
+        if !disk::write(at.fd, journal, serial, 1) {
+            return false;
+        }
+    }
+    say::words(b"booked ");
+    say::number(serial as u64);
+    say::line();
+    true
+}
+
+fn book_in(journal: &mut [u8], pan: &[u8], label: u16, amount: u32, clock: u32, at: Place) -> bool {
+    match journal::book(journal, pan, label, amount, clock) {
+        Booked::Serial(serial) => booked(journal, serial, at),
+        Booked::Refused(why) => {
+            say::refused(why);
+            true
+        }
+    }
+}
+
+pub fn book(line: &[u8], journal: &mut [u8], at: Place) -> bool {
+    let label = fields::number(line, 2, 65535);
+    let label_known = label.clear;
+    if !label_known {
+        return true;
+    }
+    let amount = fields::number(line, 3, 4294967295);
+    let amount_known = amount.clear;
+    if !amount_known {
+        return true;
+    }
+    let clock = fields::number(line, 4, 4294967295);
+    let clock_known = clock.clear;
+    if !clock_known {
+        return true;
+    }
+    let pan = script::text_of(script::word(line, 1));
+    book_in(
+        journal,
+        pan,
+        label.value as u16,
+        amount.value as u32,
+        clock.value as u32,
+        at,
+    )
+}
+
+fn swipe_in(
+    stream: &[u8],
+    bits: u64,
+    site: &[u8],
+    acquirer: &[u8],
+    amount: u32,
+    clock: u32,
+    journal: &mut [u8],
+    at: Place,
+) -> bool {
+    let mut scratch = [0u8; 37];
+    match swipe::swipe(
+        stream,
+        bits,
+        site,
+        acquirer,
+        amount,
+        clock,
+        &mut scratch,
+        journal,
+    ) {
+        Swiped::Serial(serial) => booked(journal, serial, at),
+        Swiped::Refused(why) => {
+            say::refused(why);
+            true
+        }
+    }
+}
+
+pub fn swipe(
+    line: &[u8],
+    site: &[u8],
+    acquirer: &[u8],
+    stream: &mut [u8],
+    journal: &mut [u8],
+    at: Place,
+) -> bool {
+    let filled = fields::bytes(line, stream);
+    let stream_known = filled.clear;
+    if !stream_known {
+        return true;
+    }
+    let bits = fields::number(line, 2, 18446744073709551615);
+    let bits_known = bits.clear;
+    if !bits_known {
+        return true;
+    }
+    let amount = fields::number(line, 3, 4294967295);
+    let amount_known = amount.clear;
+    if !amount_known {
+        return true;
+    }
+    let clock = fields::number(line, 4, 4294967295);
+    let clock_known = clock.clear;
+    if !clock_known {
+        return true;
+    }
+    let n = filled.length;
+    swipe_in(
+        &stream[0..n],
+        bits.value,
+        site,
+        acquirer,
+        amount.value as u32,
+        clock.value as u32,
+        journal,
+        at,
+    )
+}
+
+// ---- release
+
+// The first of `count` serials that end with s.
+fn first_of(s: u32, count: u32) -> u32
+    requires { ⌜ 0 < count ⌝ }
+{
+    if count < s {
+        return s - count + 1;
+    }
+    1
+}
+
+// Answers a release once it is on the disk.
+fn released(journal: &[u8], s: u32, count: u32, sum: u64, at: Place) -> bool {
+    let filed = at.filed;
+    if filed {
+        if 0 < count {
+            if !disk::write(at.fd, journal, first_of(s, count), count) {
+                return false;
+            }
+        }
+    }
+    say::words(b"released ");
+    say::number(count as u64);
+    say::words(b" ");
+    say::number(sum);
+    say::line();
+    true
+}
+
+fn release_in(journal: &mut [u8], s: u32, at: Place) -> bool {
+    match journal::release(journal, s) {
+        Released::Those(count, sum) => released(journal, s, count, sum, at),
+        Released::Refused(why) => {
+            say::refused(why);
+            true
+        }
+    }
+}
+
+pub fn release(line: &[u8], journal: &mut [u8], at: Place) -> bool {
+    let serial = fields::number(line, 1, 4294967295);
+    let known = serial.clear;
+    if !known {
+        return true;
+    }
+    release_in(journal, serial.value as u32, at)
+}
+
+// ---- show, tell, held
+
+fn show_in(journal: &[u8], serial: u32) {
+    match journal::find(journal, serial) {
+        Shown::At(at) => {
+            say::words(b"record ");
+            say::hex(script::piece(journal, at, 32));
+            say::line();
+        }
+        Shown::Refused(why) => say::refused(why),
+    }
+}
+
+pub fn show(line: &[u8], journal: &[u8]) {
+    let serial = fields::number(line, 1, 4294967295);
+    let known = serial.clear;
+    if !known {
+        return;
+    }
+    show_in(journal, serial.value as u32);
+}
+
+pub fn tell(journal: &[u8]) {
+    match journal::tell(journal) {
+        Told::Held(count, sum, oldest, newest) => {
+            say::words(b"held ");
+            say::number(count as u64);
+            say::words(b" ");
+            say::number(sum);
+            say::words(b" oldest ");
+            say::number(oldest as u64);
+            say::words(b" newest ");
+            say::number(newest as u64);
+            say::line();
+        }
+        Told::Refused(why) => say::refused(why),
+    }
+}
+
+// How many digits of a PAN of n digits its masked text hides.
+fn hidden(n: u8) -> usize {
+    if n < 10 {
+        return 0;
+    }
+    (n - 10) as usize
+}
+
+// The line of a held record: serial, amount, masked PAN.
+fn entry(slot: &[u8])
+    requires { ⌜ 32 ≤ length (now slot) ⌝ }
+{
+    say::number(text::u32_at(slot, 0) as u64);
+    say::words(b" ");
+    say::number(text::u32_at(slot, 8) as u64);
+    say::words(b" ");
+    say::words(&slot[16..22]);
+    say::words(script::piece(b"*********", 0, hidden(slot[14])));
+    say::words(&slot[22..26]);
+    say::line();
+}
+
+// Writes the line of a serial whose record is held: how many lines that were.
+fn listed(journal: &[u8], newest: u32, serial: u32) -> u64
+    requires { ⌜ Formed (now journal) (slotsOf (now journal)) newest ⌝ }
+    ensures { λ r. ⌜ r ≤ 1 ⌝ }
+{
+    match journal::inner::find_at(journal, newest, serial) {
+        Shown::At(at) => {
+            entry(&journal[at..at + 32]);
+            1
+        }
+        Shown::Refused(_) => 0,
+    }
+}
+
+// Lists the held records of the serials above `low` up to the newest: how many there were.
+fn list(journal: &[u8], low: u32, newest: u32) -> u64
+    requires { ⌜ Formed (now journal) (slotsOf (now journal)) newest ⌝ }
+{
+    let mut count: u64 = 0;
+    let mut serial = low;
+    while serial < newest {
+        serial += 1;
+        count += listed(journal, newest, serial);
+    }
+    count
+}
+
+pub fn held(journal: &[u8]) {
+    match slots::newest_of(journal) {
+        Newest::Is(newest) => {
+            let count = list(journal, slots::floor_of(journal.len() / 32, newest), newest);
+            say::words(b"done ");
+            say::number(count);
+            say::line();
+        }
+        Newest::Malformed => say::refused(Reason::BadJournal),
+    }
+}
