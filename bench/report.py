@@ -17,14 +17,14 @@ LIMIT = 1.2
 # Row: why the library is above LIMIT times plain C there.
 CHARACTERS = (
     "a character's number is defined for every byte, so that no law carries 'it is a digit or a capital'; "
-    "that costs two comparisons more a character. Both sides take one remainder a character."
+    "the code has two comparisons more a character, and both sides take one remainder. Read off the sources, not measured apart."
 )
 BITS = (
     "the width is a value (five bits here, seven for track 1), and each bit is fetched by itself. "
-    "A table of two characters at a look (request E9) keeps this promise and takes the place of the loop."
+    "A table of two characters at a look (request E9) is to take the place of the loop. Read off the sources, not measured apart."
 )
 NOTES = {
-    "pan_mask": "plain C copies by memcpy and memset; the language has no block copy, so each of 16 bytes is chosen and stored by itself.",
+    "pan_mask": "plain C copies by memcpy and memset; the language has no block copy, so each of 16 bytes is chosen and stored by itself. Read off the sources, not measured apart.",
     "creditor_test": CHARACTERS,
     "creditor_make": CHARACTERS,
     "iban_test.DE": CHARACTERS,
