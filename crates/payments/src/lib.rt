@@ -1,4 +1,4 @@
-// The commands on the journal, in memory or in a file: slots, survey, book, swipe, release, show, tell, held.
+// The commands on the journal, in memory or in a file: slots, journal, survey, book, swipe, release, show, tell, held.
 use journal::Booked;
 use journal::Released;
 use journal::Shown;
@@ -6,6 +6,7 @@ use journal::Surveyed;
 use journal::Told;
 use reasons::Reason;
 use say::fields;
+use say::fields::Filled;
 use slots::Newest;
 use swipe::Swiped;
 ghost use Prim.Native.Nat.{_+_, _≤_, _<_};
@@ -18,9 +19,9 @@ pub struct Place {
     pub fd: i32,
 }
 
-// ---- slots
+// ---- slots, journal
 
-fn clear(journal: &mut [u8]) {
+fn zero(journal: &mut [u8]) {
     let mut i = 0;
     while i < journal.len() {
         journal[i] = 0;
@@ -28,29 +29,43 @@ fn clear(journal: &mut [u8]) {
     }
 }
 
-// A new, empty journal in memory: its length, 0 where the line isn't understood.
-pub fn slots(line: &[u8], journal: &mut [u8]) -> usize
-    ensures { λ r. ⌜ r ≤ 65536 ⌝ }
+// A new, empty journal in memory: how many bytes it has.
+pub fn slots(line: &[u8], journal: &mut [u8]) -> Filled
+    requires { ⌜ 65536 ≤ length (now journal) ⌝ }
+    ensures { λ r. ⌜ r .length ≤ length (now (journal .exit)) ⌝ }
 {
     let field = fields::number(line, 1, 4294967295);
-    let known = field.clear;
-    if !known {
-        return 0;
-    }
     let n = field.value;
+    let clear = field.clear;
+    if !clear {
+        return fields::fills_none();
+    }
     if n == 0 {
         fields::unclear(b"slots are 1 to 2048");
-        return 0;
+        return fields::fills_none();
     }
     if 2048 < n {
         fields::unclear(b"slots are 1 to 2048");
-        return 0;
+        return fields::fills_none();
     }
-    clear(journal);
+    zero(journal);
     say::words(b"slots ");
     say::number(n);
     say::line();
-    32 * (n as usize)
+    fields::fills(32 * (n as usize))
+}
+
+// A journal in memory with the bytes of a line: how many they are. It is surveyed at once.
+pub fn load(line: &[u8], journal: &mut [u8]) -> Filled
+    ensures { λ r. ⌜ r .length ≤ length (now (journal .exit)) ⌝ }
+{
+    let filled = fields::bytes(line, journal);
+    let clear = filled.clear;
+    let n = filled.length;
+    if clear {
+        survey(&journal[0..n]);
+    }
+    filled
 }
 
 // ---- survey
@@ -159,20 +174,40 @@ fn book_in(journal: &mut [u8], pan: &[u8], label: u16, amount: u32, clock: u32, 
     }
 }
 
+// What book and swipe have in common, words 3 and 4 of a line.
+struct Sale {
+    clear: bool,
+    amount: u32,
+    clock: u32,
+}
+
+fn sale_of(line: &[u8]) -> Sale {
+    let amount = fields::number(line, 3, 4294967295);
+    let known = amount.clear;
+    if !known {
+        return Sale {
+            clear: false,
+            amount: 0,
+            clock: 0,
+        };
+    }
+    let clock = fields::number(line, 4, 4294967295);
+    Sale {
+        clear: clock.clear,
+        amount: amount.value as u32,
+        clock: clock.value as u32,
+    }
+}
+
 pub fn book(line: &[u8], journal: &mut [u8], at: Place) -> bool {
     let label = fields::number(line, 2, 65535);
     let label_known = label.clear;
     if !label_known {
         return true;
     }
-    let amount = fields::number(line, 3, 4294967295);
-    let amount_known = amount.clear;
-    if !amount_known {
-        return true;
-    }
-    let clock = fields::number(line, 4, 4294967295);
-    let clock_known = clock.clear;
-    if !clock_known {
+    let sale = sale_of(line);
+    let sale_known = sale.clear;
+    if !sale_known {
         return true;
     }
     let pan = script::text_of(script::word(line, 1));
@@ -180,8 +215,8 @@ pub fn book(line: &[u8], journal: &mut [u8], at: Place) -> bool {
         journal,
         pan,
         label.value as u16,
-        amount.value as u32,
-        clock.value as u32,
+        sale.amount,
+        sale.clock,
         at,
     )
 }
@@ -233,14 +268,9 @@ pub fn swipe(
     if !bits_known {
         return true;
     }
-    let amount = fields::number(line, 3, 4294967295);
-    let amount_known = amount.clear;
-    if !amount_known {
-        return true;
-    }
-    let clock = fields::number(line, 4, 4294967295);
-    let clock_known = clock.clear;
-    if !clock_known {
+    let sale = sale_of(line);
+    let sale_known = sale.clear;
+    if !sale_known {
         return true;
     }
     let n = filled.length;
@@ -249,8 +279,8 @@ pub fn swipe(
         bits.value,
         site,
         acquirer,
-        amount.value as u32,
-        clock.value as u32,
+        sale.amount,
+        sale.clock,
         journal,
         at,
     )

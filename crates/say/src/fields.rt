@@ -4,6 +4,7 @@ use super::words;
 use script::Bytes;
 use script::Number;
 use script::Unclear;
+ghost use mathlib.Core.Path.{_≡_};
 ghost use Prim.Native.Nat.{_≤_};
 ghost use lib.ListN.{length};
 
@@ -50,21 +51,33 @@ pub struct Filled {
     pub length: usize,
 }
 
+pub fn fills(length: usize) -> Filled
+    ensures { λ r. ⌜ r .length ≡ length ⌝ }
+{
+    Filled {
+        clear: true,
+        length,
+    }
+}
+
+pub fn fills_none() -> Filled
+    ensures { λ r. ⌜ r .length ≡ 0 ⌝ }
+{
+    Filled {
+        clear: false,
+        length: 0,
+    }
+}
+
 // Word 1 of a line as bytes, into the front of a buffer.
 pub fn bytes(text: &[u8], out: &mut [u8]) -> Filled
     ensures { λ r. ⌜ r .length ≤ length (now (out .exit)) ⌝ }
 {
     match script::bytes_in(script::text_of(script::word(text, 1)), out) {
-        Bytes::Count(length) => Filled {
-            clear: true,
-            length,
-        },
+        Bytes::Count(length) => fills(length),
         Bytes::Isnt(why) => {
             unclear_word(why);
-            Filled {
-                clear: false,
-                length: 0,
-            }
+            fills_none()
         }
     }
 }

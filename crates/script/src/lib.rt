@@ -45,7 +45,15 @@ fn start_of(line: &[u8], k: usize) -> usize
     at
 }
 
-// Word k of a line, the first being word 0: a part of the line, empty where there is none.
+// The line from word k on, the first being word 0; empty where there is none.
+pub fn from_word(line: &[u8], k: usize) -> &[u8]
+    ensures { λ r. ⌜ now r ≡ afterWords k (now (line .entry)) ⌝ }
+{
+    let a = start_of(line, k);
+    &line[a..]
+}
+
+// Word k of a line: a part of the line, empty where there is none.
 pub fn word(line: &[u8], k: usize) -> &[u8]
     ensures { λ r. ⌜ now r ≡ word k (now (line .entry)) ⌝ }
 {

@@ -1,22 +1,22 @@
 -- The worked cases of document 01, as a list, and what it means that a case holds: over the definitions that the promises use. Assumes nothing.
-use Prim.Native.Nat.{ℕ, _+_, _-_, _*_, _%_}
+use Prim.Native.Nat.{ℕ, zero, suc, _+_, _-_, _/_, _%_}
 use Prim.Native.String.{String}
 use mathlib.Core.Path.{_≡_}
 use mathlib.Core.Bool.{Bool, true, false}
-use mathlib.Core.List.{List, [], _∷_, _++_}
+use mathlib.Core.List.{List, [], _∷_, _++_, reverse}
 use lib.Bits.{bitXor}
 use lib.Dec.{eqb}
-use lib.ListN.{length, replicate}
+use lib.ListN.{length, take, drop, replicate}
 use Rattle.text.specs.Bytes.{bytesOf}
 use Rattle.reasons.specs.Reasons.{gives, refuses}
 use Rattle.luhn.specs.Luhn.{luhnRule}
 use Rattle.pan.specs.Pan.{masked}
 use Rattle.creditor.specs.Creditor.{creditorRule}
 use Rattle.iban.specs.Iban.{ibanRule}
-use Rattle.bits.specs.Stream.{ones}
-use Rattle.bits.specs.Reading.{readOne}
+use Rattle.bits.specs.Stream.{number, ones}
+use Rattle.bits.specs.Reading.{forwardOf, reversedOf}
 use Rattle.bits.specs.Shape.{bitsOf}
-use Rattle.track2.specs.Track2.{track2}
+use Rattle.track2.specs.Track2.{track2Rule}
 use Rattle.journal.specs.Rules.{Books, saidBooked}
 use Rattle.journal.specs.declared.Booked.{Booked}
 
@@ -35,6 +35,11 @@ abbrev pub lrcOf : List ℕ → ℕ
 lrcOf [] = 0
 lrcOf (b ∷ s) = bitXor (b - 48) (lrcOf s)
 
+-- so many bytes of a stream: "stream bit i is bit i mod 8 (0 the lowest) of byte i div 8"
+abbrev pub packed : ℕ → List Bool → List ℕ
+packed zero s = []
+packed (suc n) s = number (take 8 s) ∷ packed n (drop 8 s)
+
 -- ---- the cases
 
 pub data Case : Type 0 where
@@ -51,13 +56,14 @@ pub data Case : Type 0 where
   -- booking a PAN with label, amount and clock in one empty slot leaves these bytes
   books : String → ℕ → ℕ → ℕ → List ℕ → Case
 
--- a track holds where it has this LRC and these counts, and, written so, reads forward as what stands between its sentinels
+-- a track holds where it has this LRC and these counts and, written so, reads as what stands between its sentinels, either way round
 pub record TrackHolds (text between : List ℕ) (lrc : ℕ) (bits : List Bool) (count bit-count : ℕ) : Type 0 where
   pub lrc-number : lrcOf text ≡ lrc
   pub lrc-bits : character lrc ≡ bits
   pub character-count : length text + 1 ≡ count
-  pub bits-count : length (characters text ++ character lrc) ≡ bit-count
-  pub reads : readOne track2 (characters text ++ character lrc) ≡ gives between
+  pub bits-count : length (characters text ++ bits) ≡ bit-count
+  pub forward : track2Rule (packed ((bit-count + 7) / 8) (characters text ++ bits)) bit-count 37 ≡ gives (forwardOf between)
+  pub backward : track2Rule (packed ((bit-count + 7) / 8) (reverse (characters text ++ bits))) bit-count 37 ≡ gives (reversedOf between)
 
 -- what stands between the first and the last character
 abbrev pub inner : List ℕ → List ℕ

@@ -1,19 +1,11 @@
-// Runs document 01's worked cases and the outside vectors, one line a case: what went in, what came out.
-mod accounts;
+// Shows document 01: its worked cases and the outside vectors, one line a case, as `stdin` lists them; lengths that no command can lend; the
+// battery swap.
 mod battery;
-mod cards;
-mod digits;
-mod journals;
-mod parts;
-mod stripe;
-mod swipes;
+mod lengths;
 
 fn main() {
-    digits::run();
-    cards::run();
-    stripe::run();
-    accounts::run();
-    journals::run();
-    swipes::run();
+    let mut journal = [0u8; 65537];
+    commands::run(&mut journal, commands::in_memory(true));
+    lengths::run();
     battery::run();
 }

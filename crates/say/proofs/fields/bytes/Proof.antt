@@ -17,17 +17,23 @@ bytes-in-requires c κs = search needs
 enum-known-length : tie.Need-enum-known-length
 enum-known-length c = search needs
 
+fills-requires : tie.Need-fills-requires
+fills-requires c κs = search needs
+
 enum-known-why : tie.Need-enum-known-why
 enum-known-why c = search needs
 
 unclear-word-requires : tie.Need-unclear-word-requires
 unclear-word-requires c κs = search needs
 
+fills-none-requires : tie.Need-fills-none-requires
+fills-none-requires c κs = search needs
+
 same-length : tie.Need-same-length
 same-length c = search needs
 
 returns : tie.Need-returns
-returns c = let h = bytes-fit _ _ _ _ (c .before .before .before .before .before .bytes-in .ensures .0) (c .before .length .given .1) in omega arith
+returns c = let h = bytes-fit _ _ _ _ (c .before .before .before .before .before .before .bytes-in .ensures .0) (c .before .before .length .given .1) in omega arith
 
 same-length-2 : tie.Need-same-length-2
 same-length-2 c = search needs
@@ -43,8 +49,10 @@ bytes-spec =
     text-of-requires
     bytes-in-requires
     enum-known-length
+    fills-requires
     enum-known-why
     unclear-word-requires
+    fills-none-requires
     same-length
     returns
     same-length-2

@@ -1,11 +1,11 @@
--- `run`: what is in use of each buffer stays within it, from line to line. Assumes nothing.
+-- `take_lines`: what is in use of each buffer stays within it, from line to line. Assumes nothing.
 use Prim.Native.Nat.{_≤_}
 use borrow.Author.Needs.{needs}
 use lib.ListN.{length}
 use mathlib.Core.Path.{_≡_}
-use Rattle.card.specs.Kept.{Sound}
-use Rattle.card.proofs.run.Statement.{statement}
-use Rattle.card.proofs.run.Tie as tie
+use Rattle.commands.specs.Kept.{Sound}
+use Rattle.commands.proofs.take_lines.Statement.{statement}
+use Rattle.commands.proofs.take_lines.Tie as tie
 
 abbrev Inv-loop : tie.InvT-loop
 Inv-loop input₀ line₀ site₀ acquirer₀ stream₀ journal₀ st₀ source₀ turns₀ input line site acquirer stream journal st source turns =
@@ -88,8 +88,8 @@ same-length-12 c = search needs
 returns-2 : tie.Need-returns-2 Inv-loop μ-loop
 returns-2 c = search needs
 
-pub run-spec : {M : Type 1} → statement M
-run-spec =
+pub take-lines-spec : {M : Type 1} → statement M
+take-lines-spec =
     tie.close
     (tie.spec
     Inv-loop

@@ -2,7 +2,7 @@
 use Prim.Native.Nat.{ℕ, _≤_}
 use mathlib.Core.List.{List}
 use lib.ListN.{length}
-use Rattle.card.specs.declared.State.{State}
+use Rattle.commands.specs.declared.State.{State}
 
 -- what is in use of each buffer lies within it, and the journal's has room for 2,048 slots
 pub record Sound (site acquirer journal : List ℕ) (st : State) : Type 0 where

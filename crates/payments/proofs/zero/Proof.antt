@@ -1,11 +1,11 @@
--- `clear`: one turn for each byte. Assumes nothing.
+-- `zero`: one turn for each byte. Assumes nothing.
 use Prim.Native.Nat.{_≤_, _-_}
 use borrow.Author.Needs.{needs}
 use lib.ListN.{length, length-set}
 use mathlib.Core.Path.{_≡_}
 use native.Mathlib.Omega.{arith}
-use Rattle.payments.proofs.clear.Statement.{statement}
-use Rattle.payments.proofs.clear.Tie as tie
+use Rattle.payments.proofs.zero.Statement.{statement}
+use Rattle.payments.proofs.zero.Tie as tie
 
 abbrev Inv-loop : tie.InvT-loop
 Inv-loop journal₀ i₀ journal i = (i ≤ length journal) × (length journal ≡ length journal₀)
@@ -34,8 +34,8 @@ same-length c = search needs
 returns : tie.Need-returns Inv-loop μ-loop
 returns c = search needs
 
-pub clear-spec : {M : Type 1} → statement M
-clear-spec =
+pub zero-spec : {M : Type 1} → statement M
+zero-spec =
     tie.close
     (tie.spec
     Inv-loop
