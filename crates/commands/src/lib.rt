@@ -133,8 +133,12 @@ fn operands_of(c: Command) -> usize {
     }
 }
 
-// Whether a line has its command's words; where it hasn't, that is answered.
+// Whether a line has a command and its words; where it hasn't, that is answered.
 fn has_words(c: Command, line: &[u8]) -> bool {
+    if let Command::Unknown = c {
+        fields::unclear(b"no such command");
+        return false;
+    }
     let n = operands_of(c);
     if script::has_gap(line) {
         fields::unclear(b"an empty word (- stands for an empty text)");
@@ -288,6 +292,31 @@ fn with_journal(
     next
 }
 
+// A command on the tables.
+fn on_tables(c: Command, line: &[u8], site: &mut [u8], acquirer: &mut [u8], st: State) -> State
+    requires { ⌜ (st .site ≤ length (now site)) × (st .acquirer ≤ length (now acquirer)) ⌝ }
+    ensures { λ r. ⌜ (r .site ≤ length (now (site .exit))) × (r .acquirer ≤ length (now (acquirer .exit))) × (r .length ≡ st .length) ⌝ }
+{
+    let s = st.site;
+    let a = st.acquirer;
+    let mut next = st;
+    match c {
+        Command::Site => {
+            next.site = tables::take_in(b"site ", line, site, s);
+            next
+        }
+        Command::Acquirer => {
+            next.acquirer = tables::take_in(b"acquirer ", line, acquirer, a);
+            next
+        }
+        _ => {
+            let pan = script::text_of(script::word(line, 1));
+            tables::range(&site[0..s], &acquirer[0..a], pan);
+            next
+        }
+    }
+}
+
 // Answers a line, and says what is kept from now on.
 fn answer(
     line: &[u8],
@@ -301,15 +330,9 @@ fn answer(
     ensures { λ r. ⌜ Sound (now (site .exit)) (now (acquirer .exit)) (now (journal .exit)) r ⌝ }
 {
     let c = command_of(script::word(line, 0));
-    if let Command::Unknown = c {
-        fields::unclear(b"no such command");
-        return st;
-    }
     if !has_words(c, line) {
         return st;
     }
-    let s = st.site;
-    let a = st.acquirer;
     match c {
         Command::Of(t) => {
             check_text(t, line);
@@ -319,26 +342,15 @@ fn answer(
             stripe::track2(line, stream);
             st
         }
-        Command::Site => {
-            let mut next = st;
-            next.site = tables::take_in(b"site ", line, site, s);
-            next
-        }
-        Command::Acquirer => {
-            let mut next = st;
-            next.acquirer = tables::take_in(b"acquirer ", line, acquirer, a);
-            next
-        }
-        Command::Range => {
-            tables::range(
-                &site[0..s],
-                &acquirer[0..a],
-                script::text_of(script::word(line, 1)),
-            );
-            st
+        Command::Site | Command::Acquirer | Command::Range => {
+            on_tables(c, line, site, acquirer, st)
         }
         Command::Slots | Command::Journal => new_journal(c, line, journal, st),
-        _ => with_journal(c, line, &site[0..s], &acquirer[0..a], stream, journal, st),
+        _ => {
+            let s = st.site;
+            let a = st.acquirer;
+            with_journal(c, line, &site[0..s], &acquirer[0..a], stream, journal, st)
+        }
     }
 }
 
