@@ -14,6 +14,8 @@ use Rattle.reasons.proofs.Laws.{gives-refuses}
 use Rattle.journal.specs.Rules.{showRule}
 use Rattle.journal.proofs.Rule.{show-bad}
 use Rattle.goltwarden.specs.Walk.{firstAbove, walkRule, walkPlace}
+use Rattle.goltwarden.specs.Hands.{Hands}
+use Rattle.goltwarden.proofs.Handed.{gave, behind-is}
 
 pub is-formed : (j : List ℕ) (m : Newest) (b : ℕ) → NewestIs j m → m ≡ Is b → Formed j (slotsOf j) b
 is-formed j m b f e = subst (λ (v : Newest). NewestIs j v) e f
@@ -39,9 +41,14 @@ pub walk-bad : (j : List ℕ) (s : ℕ) → refuses 16 ≡ walkRule Malformed j 
 unfolding walkRule
 walk-bad j s = refl
 
-pub walk-done : (j : List ℕ) (b s r : ℕ) → r ≡ firstAbove j b s → gives r ≡ walkRule (Is b) j s
+walk-done : (j : List ℕ) (b s r : ℕ) → r ≡ firstAbove j b s → gives r ≡ walkRule (Is b) j s
 unfolding walkRule
 walk-done j b s r e = ap {B = Outcome ℕ} gives e
+
+-- the step as C gets it: the serial s, and where its record begins
+pub walk-gave : (j : List ℕ) (b above : ℕ) (x : ℕ × ℕ) (s at : ℕ) → s ≡ firstAbove j b above → at ≡ walkPlace j s
+    → Hands (walkRule (Is b) j above) x (λ t. (t, walkPlace j t)) 0 (s, at)
+walk-gave j b above x s at e f = behind-is _ _ _ _ _ _ (ap (λ (p : ℕ). (s, p)) f) (gave _ _ _ s (walk-done j b above s e))
 
 -- a journal of which something is shown has at most 65,536 bytes
 pub short : (j : List ℕ) (s at : ℕ) (m : Newest) → NewestIs j m → gives at ≡ showRule m j s → length j ≤ 65536

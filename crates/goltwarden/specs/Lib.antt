@@ -1,3 +1,4 @@
 pub mod Walk
 pub mod Cards
-pub mod Swipes
+pub mod Hands
+pub mod Calls

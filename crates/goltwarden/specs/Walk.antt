@@ -1,6 +1,5 @@
 -- One step of a walk, for callers who hold no walker: the first held record above a serial. Assumes nothing.
 use Prim.Native.Nat.{ℕ, zero, suc, max, _-_}
-use mathlib.Core.Bool.{Bool, true, false}
 use mathlib.Core.List.{List}
 use Rattle.reasons.specs.Reasons.{Outcome, gives, demand}
 use Rattle.slots.specs.Journal.{slotsOf, place}
@@ -19,8 +18,3 @@ walkRule m j s = demand (formed m) 16 (gives (firstAbove j (newest m) s))
 abbrev pub walkPlace : List ℕ → ℕ → ℕ
 walkPlace j zero = 0
 walkPlace j (suc s) = place (slotsOf j) (suc s)
-
--- a truth value as C has it
-abbrev pub oneIf : Bool → ℕ
-oneIf true = 1
-oneIf false = 0

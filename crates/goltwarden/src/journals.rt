@@ -7,13 +7,9 @@ use journal::Told;
 use slots::Newest;
 ghost use mathlib.Core.Path.{_≡_};
 ghost use Prim.Native.Nat.{_≤_};
-ghost use lib.ListN.{length};
-ghost use Rattle.reasons.specs.Reasons.{numberIn, after};
 ghost use Rattle.slots.specs.Journal.{slotsOf, Formed};
-ghost use Rattle.slots.specs.Views.{Seen};
-ghost use Rattle.journal.specs.Rules.{bookRule, bookBytes, releaseRule, releaseBytes, showRule, tellRule};
-ghost use Rattle.journal.specs.Survey.{surveyRule, Fills};
-ghost use Rattle.goltwarden.specs.Walk.{firstAbove, walkRule, walkPlace, oneIf};
+ghost use Rattle.goltwarden.specs.Walk.{firstAbove, walkPlace};
+ghost use Rattle.goltwarden.specs.Calls.{JournalBooks, JournalReleases, JournalShows, JournalTells, JournalWalks, JournalSurveys};
 
 #[no_mangle]
 pub extern "C" fn gw_journal_book(
@@ -24,9 +20,7 @@ pub extern "C" fn gw_journal_book(
     clock: u32,
     serial: &mut u32,
 ) -> u32
-    ensures { λ r. ⌜ Seen (now (journal .entry)) (λ m. (r ≡ numberIn (bookRule m (now (journal .entry)) (now (pan .entry)) label amount))
-        × (now (serial .exit) ≡ after (bookRule m (now (journal .entry)) (now (pan .entry)) label amount) (now (serial .entry)) (λ s. s))
-        × (now (journal .exit) ≡ bookBytes m (now (journal .entry)) (now (pan .entry)) label amount clock)) ⌝ }
+    ensures { λ r. ⌜ JournalBooks (now (journal .entry)) (now (pan .entry)) label amount clock (now (serial .entry)) r (now (serial .exit)) (now (journal .exit)) ⌝ }
 {
     match journal::book(journal, pan, label, amount, clock) {
         Booked::Serial(s) => {
@@ -44,10 +38,7 @@ pub extern "C" fn gw_journal_release(
     count: &mut u32,
     sum: &mut u64,
 ) -> u32
-    ensures { λ r. ⌜ Seen (now (journal .entry)) (λ m. (r ≡ numberIn (releaseRule m (now (journal .entry)) serial))
-        × (now (count .exit) ≡ after (releaseRule m (now (journal .entry)) serial) (now (count .entry)) (λ t. t .count))
-        × (now (sum .exit) ≡ after (releaseRule m (now (journal .entry)) serial) (now (sum .entry)) (λ t. t .sum))
-        × (now (journal .exit) ≡ releaseBytes m (now (journal .entry)) serial)) ⌝ }
+    ensures { λ r. ⌜ JournalReleases (now (journal .entry)) serial (now (count .entry), now (sum .entry)) r (now (count .exit), now (sum .exit)) (now (journal .exit)) ⌝ }
 {
     match journal::release(journal, serial) {
         Released::Those(c, y) => {
@@ -61,8 +52,7 @@ pub extern "C" fn gw_journal_release(
 
 #[no_mangle]
 pub extern "C" fn gw_journal_show(journal: &[u8], serial: u32, at: &mut u32) -> u32
-    ensures { λ r. ⌜ Seen (now (journal .entry)) (λ m. (r ≡ numberIn (showRule m (now (journal .entry)) serial))
-        × (now (at .exit) ≡ after (showRule m (now (journal .entry)) serial) (now (at .entry)) (λ a. a))) ⌝ }
+    ensures { λ r. ⌜ JournalShows (now (journal .entry)) serial (now (at .entry)) r (now (at .exit)) ⌝ }
 {
     match journal::find(journal, serial) {
         Shown::At(a) => {
@@ -81,11 +71,7 @@ pub extern "C" fn gw_journal_tell(
     oldest: &mut u32,
     newest: &mut u32,
 ) -> u32
-    ensures { λ r. ⌜ Seen (now (journal .entry)) (λ m. (r ≡ numberIn (tellRule m (now (journal .entry))))
-        × (now (count .exit) ≡ after (tellRule m (now (journal .entry))) (now (count .entry)) (λ t. t .count))
-        × (now (sum .exit) ≡ after (tellRule m (now (journal .entry))) (now (sum .entry)) (λ t. t .sum))
-        × (now (oldest .exit) ≡ after (tellRule m (now (journal .entry))) (now (oldest .entry)) (λ t. t .oldest))
-        × (now (newest .exit) ≡ after (tellRule m (now (journal .entry))) (now (newest .entry)) (λ t. t .newest))) ⌝ }
+    ensures { λ r. ⌜ JournalTells (now (journal .entry)) (now (count .entry), now (sum .entry), now (oldest .entry), now (newest .entry)) r (now (count .exit), now (sum .exit), now (oldest .exit), now (newest .exit)) ⌝ }
 {
     match journal::tell(journal) {
         Told::Held(c, y, o, b) => {
@@ -127,9 +113,7 @@ fn place_or_zero(j: &[u8], s: u32) -> u32
 // One step of a walk: the first held record above a serial; serial 0 and place 0 say done.
 #[no_mangle]
 pub extern "C" fn gw_journal_walk(journal: &[u8], above: u32, serial: &mut u32, at: &mut u32) -> u32
-    ensures { λ r. ⌜ Seen (now (journal .entry)) (λ m. (r ≡ numberIn (walkRule m (now (journal .entry)) above))
-        × (now (serial .exit) ≡ after (walkRule m (now (journal .entry)) above) (now (serial .entry)) (λ s. s))
-        × (now (at .exit) ≡ after (walkRule m (now (journal .entry)) above) (now (at .entry)) (λ s. walkPlace (now (journal .entry)) s))) ⌝ }
+    ensures { λ r. ⌜ JournalWalks (now (journal .entry)) above (now (serial .entry), now (at .entry)) r (now (serial .exit), now (at .exit)) ⌝ }
 {
     match slots::newest_of(journal) {
         Newest::Malformed => 16,
@@ -144,9 +128,7 @@ pub extern "C" fn gw_journal_walk(journal: &[u8], above: u32, serial: &mut u32, 
 
 #[no_mangle]
 pub extern "C" fn gw_journal_survey(journal: &[u8], states: &mut [u8], formed: &mut u32) -> u32
-    ensures { λ r. ⌜ Seen (now (journal .entry)) (λ m. (r ≡ numberIn (surveyRule m (now (journal .entry)) (length (now (states .entry)))))
-        × (now (formed .exit) ≡ after (surveyRule m (now (journal .entry)) (length (now (states .entry)))) (now (formed .entry)) oneIf)
-        × Fills (now (journal .entry)) (now (states .entry)) (surveyRule m (now (journal .entry)) (length (now (states .entry)))) (now (states .exit))) ⌝ }
+    ensures { λ r. ⌜ JournalSurveys (now (journal .entry)) (now (states .entry)) (now (formed .entry)) r (now (formed .exit)) (now (states .exit)) ⌝ }
 {
     match journal::survey(journal, states) {
         Surveyed::Formed => {

@@ -4,11 +4,8 @@ use layout::Division;
 use layout::Field;
 ghost use mathlib.Core.Path.{_≡_};
 ghost use Prim.Native.Nat.{_<_};
-ghost use lib.ListN.{length};
-ghost use Rattle.reasons.specs.Reasons.{numberIn, after};
-ghost use Rattle.bits.specs.Stream.{bitN};
-ghost use Rattle.track2.specs.Track2.{track2Rule, track2Bytes};
-ghost use Rattle.layout.specs.Layout.{layoutRule, fieldCut};
+ghost use Rattle.layout.specs.Layout.{fieldCut};
+ghost use Rattle.goltwarden.specs.Calls.{Track2Reads, LayoutReads};
 
 #[no_mangle]
 pub extern "C" fn gw_track2_read(
@@ -18,10 +15,7 @@ pub extern "C" fn gw_track2_read(
     count: &mut u32,
     reversed: &mut u32,
 ) -> u32
-    ensures number { λ r. ⌜ r ≡ numberIn (track2Rule (now (stream .entry)) bits (length (now (out .entry)))) ⌝ }
-    ensures out { λ _. ⌜ now (out .exit) ≡ track2Bytes (now (stream .entry)) bits (now (out .entry)) ⌝ }
-    ensures count { λ _. ⌜ now (count .exit) ≡ after (track2Rule (now (stream .entry)) bits (length (now (out .entry)))) (now (count .entry)) (λ t. length (t .chars)) ⌝ }
-    ensures reversed { λ _. ⌜ now (reversed .exit) ≡ after (track2Rule (now (stream .entry)) bits (length (now (out .entry)))) (now (reversed .entry)) (λ t. bitN (t .reversed)) ⌝ }
+    ensures { λ r. ⌜ Track2Reads (now (stream .entry)) bits (now (out .entry)) (now (count .entry), now (reversed .entry)) r (now (count .exit), now (reversed .exit)) (now (out .exit)) ⌝ }
 {
     match track2::read(stream, bits, out) {
         Read::Forward(n) => {
@@ -57,11 +51,7 @@ pub extern "C" fn gw_layout_read(
     service: &mut u32,
     rest: &mut u32,
 ) -> u32
-    ensures number { λ r. ⌜ r ≡ numberIn (layoutRule (now (chars .entry))) ⌝ }
-    ensures pan { λ _. ⌜ now (pan .exit) ≡ after (layoutRule (now (chars .entry))) (now (pan .entry)) (λ d. d .pan) ⌝ }
-    ensures expiry { λ _. ⌜ now (expiry .exit) ≡ after (layoutRule (now (chars .entry))) (now (expiry .entry)) (λ d. fieldCut 4 (d .expiry) .start) ⌝ }
-    ensures service { λ _. ⌜ now (service .exit) ≡ after (layoutRule (now (chars .entry))) (now (service .entry)) (λ d. fieldCut 3 (d .service) .start) ⌝ }
-    ensures rest { λ _. ⌜ now (rest .exit) ≡ after (layoutRule (now (chars .entry))) (now (rest .entry)) (λ d. d .rest) ⌝ }
+    ensures { λ r. ⌜ LayoutReads (now (chars .entry)) (now (pan .entry), now (expiry .entry), now (service .entry), now (rest .entry)) r (now (pan .exit), now (expiry .exit), now (service .exit), now (rest .exit)) ⌝ }
 {
     match layout::divide(chars) {
         Division::Fields {

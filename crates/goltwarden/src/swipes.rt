@@ -1,7 +1,7 @@
 // The swipe: gw_swipe.
 use swipe::Swiped;
 ghost use Rattle.swipe.specs.Swipe.{given};
-ghost use Rattle.goltwarden.specs.Swipes.{HandsOver};
+ghost use Rattle.goltwarden.specs.Calls.{Swipes};
 
 #[no_mangle]
 pub extern "C" fn gw_swipe(
@@ -15,7 +15,7 @@ pub extern "C" fn gw_swipe(
     journal: &mut [u8],
     serial: &mut u32,
 ) -> u32
-    ensures { λ r. ⌜ HandsOver (given (now (stream .entry)) bits (now (site .entry)) (now (acquirer .entry))) amount clock (now (scratch .entry)) (now (journal .entry)) (now (serial .entry)) r (now (scratch .exit)) (now (journal .exit)) (now (serial .exit)) ⌝ }
+    ensures { λ r. ⌜ Swipes (given (now (stream .entry)) bits (now (site .entry)) (now (acquirer .entry))) amount clock (now (scratch .entry)) (now (journal .entry)) (now (serial .entry)) r (now (serial .exit)) (now (scratch .exit)) (now (journal .exit)) ⌝ }
 {
     match swipe::swipe(
         stream,

@@ -1,7 +1,5 @@
-use Prim.Native.Nat.{ℕ}
-use mathlib.Core.Path.{ap, _∙_}
 use borrow.Author.Needs.{needs}
-use Rattle.reasons.specs.Reasons.{Outcome, numberIn, after}
+use Rattle.goltwarden.proofs.Handed.{outcome-is}
 use Rattle.goltwarden.proofs.accounts.gw_iban_make.Statement.{statement}
 use Rattle.goltwarden.proofs.accounts.gw_iban_make.Tie as tie
 
@@ -12,9 +10,7 @@ hand-requires : tie.Need-hand-requires
 hand-requires c κs = search needs
 
 returns : tie.Need-returns
-returns c =
-    let e = c .before .before .make .ensures in
-    (c .hand .ensures .0 ∙ ap numberIn e, c .hand .ensures .1 ∙ ap (λ (o : Outcome ℕ). after o (c .before .before .before .before .before .args .pair .now) (λ p. p)) e)
+returns c = outcome-is _ _ _ _ _ _ (c .before .before .make .ensures) (c .hand .ensures)
 
 pub gw-iban-make-spec : {M : Type 1} → statement M
 gw-iban-make-spec = tie.close (tie.spec make-requires hand-requires returns)

@@ -1,7 +1,7 @@
-use mathlib.Core.Path.{sym, ap, _∙_}
+use mathlib.Core.Path.{sym, ap}
 use borrow.Author.Needs.{needs}
 use Rattle.mod97.specs.Pair.{saidMade}
-use Rattle.goltwarden.proofs.Handed.{kept}
+use Rattle.goltwarden.proofs.Handed.{gave, kept}
 use Rattle.goltwarden.proofs.accounts.hand.Statement.{statement}
 use Rattle.goltwarden.proofs.accounts.hand.Tie as tie
 
@@ -15,13 +15,10 @@ number-requires : tie.Need-number-requires
 number-requires c κs = search needs
 
 returns : tie.Need-returns
-returns c = search needs
+returns c = gave _ _ _ _ (sym (ap saidMade (c .before .made .given .1)))
 
 returns-2 : tie.Need-returns-2
-returns-2 c =
-    let at = c .before .before .before .before in
-    let k = kept (saidMade (at .args .made)) (at .args .pair .now) (λ p. p) _ (sym (ap saidMade (c .before .before .made2 .given .1))) in
-    (c .number .ensures ∙ k .0, k .1)
+returns-2 c = kept _ _ _ _ _ (c .number .ensures) (sym (ap saidMade (c .before .before .made2 .given .1)))
 
 pub hand-spec : {M : Type 1} → statement M
 hand-spec =

@@ -4,7 +4,6 @@ use Rattle.reasons.specs.Reasons.{gives}
 use Rattle.ranges.specs.Ranges.{inSite, inAcquirer, rangeRule, saidFound}
 use Rattle.ranges.proofs.Steps.{whole}
 use Rattle.ranges.proofs.Inside.{site-end, acquirer-end, range-tables, range-inside}
-use Rattle.goltwarden.specs.Cards.{tableOf, offsetOf}
 use Rattle.goltwarden.proofs.Handed.{gave, kept}
 use borrow.Author.Needs.{needs}
 use Rattle.goltwarden.proofs.cards.gw_range_find.Statement.{statement}
@@ -45,27 +44,13 @@ number-requires : tie.Need-number-requires
 number-requires c κs = search needs
 
 returns : tie.Need-returns
-returns c =
-    let a = c .before .before .before .before .before .before .before .args in
-    let o = rangeRule (a .site .now) (a .acquirer .now) (a .pan .now) in
-    let t = gave o (a .table .now) tableOf _ (site-is c) in
-    (t .0, (t .1, gave o (a .at .now) offsetOf _ (site-is c) .1))
+returns c = gave _ _ _ _ (site-is c)
 
 returns-2 : tie.Need-returns-2
-returns-2 c =
-    let a = c .before .before .before .before .before .before .before .args in
-    let o = rangeRule (a .site .now) (a .acquirer .now) (a .pan .now) in
-    let t = gave o (a .table .now) tableOf _ (acquirer-is c) in
-    (t .0, (t .1, gave o (a .at .now) offsetOf _ (acquirer-is c) .1))
+returns-2 c = gave _ _ _ _ (acquirer-is c)
 
 returns-3 : tie.Need-returns-3
-returns-3 c =
-    let f = c .before .before .before .before in
-    let a = f .before .before .before .before .args in
-    let o = rangeRule (a .site .now) (a .acquirer .now) (a .pan .now) in
-    let e = sym (ap saidFound (c .before .before .why .given .1)) ∙ f .find .ensures in
-    let t = kept o (a .table .now) tableOf _ e in
-    (c .number .ensures ∙ t .0, (t .1, kept o (a .at .now) offsetOf _ e .1))
+returns-3 c = kept _ _ _ _ _ (c .number .ensures) (sym (ap saidFound (c .before .before .why .given .1)) ∙ c .before .before .before .before .find .ensures)
 
 pub gw-range-find-spec : {M : Type 1} → statement M
 gw-range-find-spec =

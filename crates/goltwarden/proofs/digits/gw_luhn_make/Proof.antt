@@ -1,5 +1,5 @@
 use mathlib.Core.Path.{sym, ap, _∙_}
-use Rattle.luhn.specs.Luhn.{makeRule, saidMade}
+use Rattle.luhn.specs.Luhn.{saidMade}
 use Rattle.goltwarden.proofs.Handed.{gave, kept}
 use borrow.Author.Needs.{needs}
 use Rattle.goltwarden.proofs.digits.gw_luhn_make.Statement.{statement}
@@ -18,17 +18,10 @@ number-requires : tie.Need-number-requires
 number-requires c κs = search needs
 
 returns : tie.Need-returns
-returns c =
-    let at = c .before .before .before in
-    let a = at .before .before .args in
-    gave (makeRule (a .body .now)) (a .digit .now) (λ b. b) _ (sym (ap saidMade (c .before .b .given .1)) ∙ at .make .ensures)
+returns c = gave _ _ _ _ (sym (ap saidMade (c .before .b .given .1)) ∙ c .before .before .before .make .ensures)
 
 returns-2 : tie.Need-returns-2
-returns-2 c =
-    let at = c .before .before .before .before in
-    let a = at .before .before .args in
-    let k = kept (makeRule (a .body .now)) (a .digit .now) (λ b. b) _ (sym (ap saidMade (c .before .before .why .given .1)) ∙ at .make .ensures) in
-    (c .number .ensures ∙ k .0, k .1)
+returns-2 c = kept _ _ _ _ _ (c .number .ensures) (sym (ap saidMade (c .before .before .why .given .1)) ∙ c .before .before .before .before .make .ensures)
 
 pub gw-luhn-make-spec : {M : Type 1} → statement M
 gw-luhn-make-spec =

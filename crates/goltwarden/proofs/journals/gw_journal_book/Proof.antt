@@ -1,7 +1,6 @@
-use mathlib.Core.Path.{sym, ap, _∙_}
-use Rattle.slots.proofs.Views.{seen-so}
+use mathlib.Core.Path.{sym, ap}
 use Rattle.goltwarden.proofs.Handed.{gave, kept}
-use Rattle.journal.specs.Rules.{bookRule, saidBooked}
+use Rattle.journal.specs.Rules.{saidBooked}
 use borrow.Author.Needs.{needs}
 use Rattle.goltwarden.proofs.journals.gw_journal_book.Statement.{statement}
 use Rattle.goltwarden.proofs.journals.gw_journal_book.Tie as tie
@@ -23,22 +22,16 @@ same-length c = search needs
 
 returns : tie.Need-returns
 returns c =
-    let at = c .before .before .before .before .before in
-    let a = at .before .before .before .before .args in
-    seen-so (a .journal .now) (at .book .ensures) (λ m p.
-    let g = gave (bookRule m (a .journal .now) (a .pan .now) (a .label) (a .amount)) (a .serial .now) (λ s. s) _ (sym (ap saidBooked (c .before .s .given .1)) ∙ p .0) in
-    (g .0, g .1, p .1))
+    let l = c .before .before .before .before .before .book in
+    record { answer = l .result; allowed = l .ensures; handed = gave _ _ _ _ (sym (ap saidBooked (c .before .s .given .1))) }
 
 same-length-2 : tie.Need-same-length-2
 same-length-2 c = search needs
 
 returns-2 : tie.Need-returns-2
 returns-2 c =
-    let at = c .before .before .before .before .before .before in
-    let a = at .before .before .before .before .args in
-    seen-so (a .journal .now) (at .book .ensures) (λ m p.
-    let k = kept (bookRule m (a .journal .now) (a .pan .now) (a .label) (a .amount)) (a .serial .now) (λ s. s) _ (sym (ap saidBooked (c .before .before .why .given .1)) ∙ p .0) in
-    (c .number .ensures ∙ k .0, k .1, p .1))
+    let l = c .before .before .before .before .before .before .book in
+    record { answer = l .result; allowed = l .ensures; handed = kept _ _ _ _ _ (c .number .ensures) (sym (ap saidBooked (c .before .before .why .given .1))) }
 
 pub gw-journal-book-spec : {M : Type 1} → statement M
 gw-journal-book-spec =

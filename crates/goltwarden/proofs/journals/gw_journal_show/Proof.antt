@@ -1,8 +1,7 @@
 use mathlib.Core.Path.{sym, ap, _∙_}
-use Rattle.slots.proofs.Views.{seen-so}
 use Rattle.goltwarden.proofs.Handed.{gave, kept}
 use native.Mathlib.Omega.{arith}
-use Rattle.journal.specs.Rules.{showRule, saidShown}
+use Rattle.journal.specs.Rules.{saidShown}
 use Rattle.journal.proofs.Rule.{found-in}
 use Rattle.goltwarden.proofs.Walked.{short}
 use borrow.Author.Needs.{needs}
@@ -31,18 +30,13 @@ number-requires c κs = search needs
 
 returns : tie.Need-returns
 returns c =
-    let at = c .before .before .before in
-    let a = at .before .before .args in
-    seen-so (a .journal .now) (at .find .ensures) (λ m p.
-    gave (showRule m (a .journal .now) (a .serial)) (a .at .now) (λ x. x) _ (sym (ap saidShown (c .before .a .given .1)) ∙ p))
+    let l = c .before .before .before .find in
+    record { answer = l .result; allowed = l .ensures; handed = gave _ _ _ _ (sym (ap saidShown (c .before .a .given .1))) }
 
 returns-2 : tie.Need-returns-2
 returns-2 c =
-    let at = c .before .before .before .before in
-    let a = at .before .before .args in
-    seen-so (a .journal .now) (at .find .ensures) (λ m p.
-    let k = kept (showRule m (a .journal .now) (a .serial)) (a .at .now) (λ x. x) _ (sym (ap saidShown (c .before .before .why .given .1)) ∙ p) in
-    (c .number .ensures ∙ k .0, k .1))
+    let l = c .before .before .before .before .find in
+    record { answer = l .result; allowed = l .ensures; handed = kept _ _ _ _ _ (c .number .ensures) (sym (ap saidShown (c .before .before .why .given .1))) }
 
 pub gw-journal-show-spec : {M : Type 1} → statement M
 gw-journal-show-spec =

@@ -1,9 +1,6 @@
-use mathlib.Core.Path.{sym, ap, _∙_}
-use Rattle.slots.proofs.Views.{seen-so}
+use mathlib.Core.Path.{sym, ap}
 use Rattle.goltwarden.proofs.Handed.{gave, kept}
-use lib.ListN.{length}
-use Rattle.journal.specs.Survey.{surveyRule, saidSurveyed}
-use Rattle.goltwarden.specs.Walk.{oneIf}
+use Rattle.journal.specs.Survey.{saidSurveyed}
 use borrow.Author.Needs.{needs}
 use Rattle.goltwarden.proofs.journals.gw_journal_survey.Statement.{statement}
 use Rattle.goltwarden.proofs.journals.gw_journal_survey.Tie as tie
@@ -28,36 +25,24 @@ same-length c = search needs
 
 returns : tie.Need-returns
 returns c =
-    let at = c .before .before .before .before in
-    let a = at .before .before .before .before .args in
-    seen-so (a .journal .now) (at .survey .ensures) (λ m p.
-    let o = surveyRule m (a .journal .now) (length (a .states .now)) in
-    let g = gave o (a .formed .now) oneIf _ (sym (ap saidSurveyed (c .enum-told .given .1)) ∙ p .0) in
-    (g .0, g .1, p .1))
+    let l = c .before .before .before .before .survey in
+    record { answer = l .result; allowed = l .ensures; handed = gave _ _ _ _ (sym (ap saidSurveyed (c .enum-told .given .1))) }
 
 same-length-2 : tie.Need-same-length-2
 same-length-2 c = search needs
 
 returns-2 : tie.Need-returns-2
 returns-2 c =
-    let at = c .before .before .before .before in
-    let a = at .before .before .before .before .args in
-    seen-so (a .journal .now) (at .survey .ensures) (λ m p.
-    let o = surveyRule m (a .journal .now) (length (a .states .now)) in
-    let g = gave o (a .formed .now) oneIf _ (sym (ap saidSurveyed (c .enum-told2 .given .1)) ∙ p .0) in
-    (g .0, g .1, p .1))
+    let l = c .before .before .before .before .survey in
+    record { answer = l .result; allowed = l .ensures; handed = gave _ _ _ _ (sym (ap saidSurveyed (c .enum-told2 .given .1))) }
 
 same-length-3 : tie.Need-same-length-3
 same-length-3 c = search needs
 
 returns-3 : tie.Need-returns-3
 returns-3 c =
-    let at = c .before .before .before .before .before .before in
-    let a = at .before .before .before .before .args in
-    seen-so (a .journal .now) (at .survey .ensures) (λ m p.
-    let o = surveyRule m (a .journal .now) (length (a .states .now)) in
-    let k = kept o (a .formed .now) oneIf _ (sym (ap saidSurveyed (c .before .before .why .given .1)) ∙ p .0) in
-    (c .number .ensures ∙ k .0, k .1, p .1))
+    let l = c .before .before .before .before .before .before .survey in
+    record { answer = l .result; allowed = l .ensures; handed = kept _ _ _ _ _ (c .number .ensures) (sym (ap saidSurveyed (c .before .before .why .given .1))) }
 
 pub gw-journal-survey-spec : {M : Type 1} → statement M
 gw-journal-survey-spec =

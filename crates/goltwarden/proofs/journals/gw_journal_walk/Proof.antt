@@ -1,8 +1,7 @@
-use mathlib.Core.Path.{_∙_}
+use mathlib.Core.Path.{refl}
 use Rattle.slots.proofs.Views.{seen}
-use Rattle.goltwarden.specs.Walk.{walkRule, walkPlace}
-use Rattle.goltwarden.proofs.Handed.{gave, kept}
-use Rattle.goltwarden.proofs.Walked.{walk-bad, walk-done, is-formed}
+use Rattle.goltwarden.proofs.Handed.{kept}
+use Rattle.goltwarden.proofs.Walked.{walk-bad, walk-gave, is-formed}
 use borrow.Author.Needs.{needs}
 use Rattle.goltwarden.proofs.journals.gw_journal_walk.Statement.{statement}
 use Rattle.goltwarden.proofs.journals.gw_journal_walk.Tie as tie
@@ -32,9 +31,7 @@ returns c =
     let at = c .before .before in
     let a = at .before .before .args in
     let j = a .journal .now in
-    seen j _ _ (at .newest-of .ensures) (c .enum-told .given .1)
-    (let k = kept (walkRule _ j (a .above)) (a .serial .now) (λ s. s) _ (walk-bad j (a .above)) in
-    (k .0, k .1, kept (walkRule _ j (a .above)) (a .at .now) (λ s. walkPlace j s) _ (walk-bad j (a .above)) .1))
+    seen j _ _ (at .newest-of .ensures) (c .enum-told .given .1) (kept _ _ _ _ _ refl (walk-bad j (a .above)))
 
 returns-2 : tie.Need-returns-2
 returns-2 c =
@@ -42,9 +39,7 @@ returns-2 c =
     let a = at .before .before .args in
     let j = a .journal .now in
     seen j _ _ (at .newest-of .ensures) (c .before .before .before .b .given .1)
-    (let e = walk-done j _ (a .above) _ (c .before .first-above .ensures) in
-    let g = gave (walkRule _ j (a .above)) (a .serial .now) (λ s. s) _ e in
-    (g .0, g .1, c .place-or-zero .ensures ∙ gave (walkRule _ j (a .above)) (a .at .now) (λ s. walkPlace j s) _ e .1))
+    (walk-gave j _ (a .above) _ _ _ (c .before .first-above .ensures) (c .place-or-zero .ensures))
 
 pub gw-journal-walk-spec : {M : Type 1} → statement M
 gw-journal-walk-spec =

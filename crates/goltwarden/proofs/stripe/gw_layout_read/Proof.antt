@@ -2,12 +2,12 @@ use borrow.Author.Needs.{needs}
 use Prim.Native.Nat.{ℕ, _≤_, _<_}
 use mathlib.Core.Path.{_≡_, refl, sym, ap, _∙_}
 use native.Mathlib.Omega.{arith}
-use Rattle.reasons.specs.Reasons.{gives, numberIn}
+use Rattle.reasons.specs.Reasons.{gives}
 use Rattle.layout.specs.Layout.{Places, layoutRule, said, fieldCut}
 use Rattle.layout.specs.declared.Field.{Field}
 use Rattle.layout.specs.declared.Field.the-variants.{Absent, At}
 use Rattle.layout.proofs.Laws.{places-small}
-use Rattle.goltwarden.proofs.Handed.{gave, kept}
+use Rattle.goltwarden.proofs.Handed.{gave, kept, behind-is}
 use Rattle.goltwarden.proofs.stripe.gw_layout_read.Statement.{statement}
 use Rattle.goltwarden.proofs.stripe.gw_layout_read.Tie as tie
 
@@ -59,41 +59,15 @@ number-requires c κs = search needs
 returns : tie.Need-returns
 returns c =
     let v = c .before in
-    let t = v .before in
-    let a = t .before .before .before .before .before .args in
-    let o = layoutRule (a .chars .now) in (
-      ap numberIn (rule-is t),
-      (
-        gave o (a .pan .now) (λ d. d .pan) (places t) (rule-is t) .1,
-        (
-          v .place .ensures ∙ same-start (places t .expiry) 0 4 ∙ gave o (a .expiry .now) (λ d. fieldCut 4 (d .expiry) .start) (places t) (rule-is t) .1,
-          (
-            c .place2 .ensures ∙ same-start (places t .service) 0 3 ∙ gave o (a .service .now) (λ d. fieldCut 3 (d .service) .start) (places t) (rule-is t) .1,
-            gave o (a .rest .now) (λ d. d .rest) (places t) (rule-is t) .1,
-          ),
-        ),
-      ),
-    )
+    let d = places (v .before) in
+    let e = v .place .ensures ∙ same-start (d .expiry) 0 4 in
+    let s = c .place2 .ensures ∙ same-start (d .service) 0 3 in
+    behind-is _ _ _ _ _ _ (λ i. (d .pan, e i, s i, d .rest)) (gave _ _ _ d (rule-is (v .before)))
 
 returns-2 : tie.Need-returns-2
 returns-2 c =
     let w = c .before .before in
-    let m = w .before .before in
-    let a = m .before .before .args in
-    let o = layoutRule (a .chars .now) in
-    let e = sym (ap said (w .why .given .1)) ∙ m .divide .ensures in (
-      c .number .ensures ∙ ap numberIn e,
-      (
-        kept o (a .pan .now) (λ d. d .pan) _ e .1,
-        (
-          kept o (a .expiry .now) (λ d. fieldCut 4 (d .expiry) .start) _ e .1,
-          (
-            kept o (a .service .now) (λ d. fieldCut 3 (d .service) .start) _ e .1,
-            kept o (a .rest .now) (λ d. d .rest) _ e .1,
-          ),
-        ),
-      ),
-    )
+    kept _ _ _ _ _ (c .number .ensures) (sym (ap said (w .why .given .1)) ∙ w .before .before .divide .ensures)
 
 pub gw-layout-read-spec : {M : Type 1} → statement M
 gw-layout-read-spec =

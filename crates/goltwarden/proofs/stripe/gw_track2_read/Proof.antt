@@ -1,14 +1,16 @@
 use borrow.Author.Needs.{needs}
 use mathlib.Core.Path.{_≡_, sym, ap, _∙_}
-use mathlib.Core.Bool.{true, false}
+use mathlib.Core.Bool.{Bool, true, false}
+use Prim.Native.Nat.{ℕ}
 use native.Mathlib.Omega.{arith}
 use lib.ListN.{length}
-use Rattle.reasons.specs.Reasons.{gives, numberIn}
+use Rattle.reasons.specs.Reasons.{Outcome, gives}
 use Rattle.bits.specs.Stream.{bitN}
-use Rattle.bits.specs.Reading.{said, counted}
+use Rattle.bits.specs.Reading.{Track, said, counted}
 use Rattle.track2.specs.Track2.{track2Rule}
 use Rattle.track2.proofs.Counts.{behind, refused, few}
-use Rattle.goltwarden.proofs.Handed.{gave, kept}
+use Rattle.goltwarden.specs.Hands.{Hands}
+use Rattle.goltwarden.proofs.Handed.{gave, kept, behind-is}
 use Rattle.goltwarden.proofs.stripe.gw_track2_read.Statement.{statement}
 use Rattle.goltwarden.proofs.stripe.gw_track2_read.Tie as tie
 
@@ -22,6 +24,13 @@ backward : (c : tie.After-known-told2) →
     let a = c .before .before .before .before .before .before .before .before .before .args in
     gives (true, c .before .n2 .given .0 .0) ≡ counted (track2Rule (a .stream .now) (a .bits) (length (a .out .now)))
 backward c = sym (ap said (c .before .n2 .given .1)) ∙ c .before .before .before .before .before .read .ensures .0
+
+-- what C gets of a reading in direction d of n characters
+read-so : (o : Outcome Track) (x : ℕ × ℕ) (d : Bool) (n : ℕ) → gives (d, n) ≡ counted o
+    → Hands o x (λ t. (length (t .chars), bitN (t .reversed))) 0 (n, bitN d)
+read-so o x d n e =
+    let b = behind o d n e in
+    behind-is _ _ _ _ _ _ (λ i. (b .count i, bitN (b .direction i))) (gave _ _ _ (b .track) (b .is))
 
 read-requires : tie.Need-read-requires
 read-requires c κs = search needs
@@ -48,39 +57,13 @@ same-length : tie.Need-same-length
 same-length c = search needs
 
 returns : tie.Need-returns
-returns c =
-    let r = c .before .before .before .before .before in
-    let a = r .before .before .before .before .args in
-    let o = track2Rule (a .stream .now) (a .bits) (length (a .out .now)) in
-    let b = behind o false _ (forward c) in (
-      ap numberIn (b .is),
-      (
-        r .read .ensures .1,
-        (
-          b .count ∙ gave o (a .count .now) (λ t. length (t .chars)) (b .track) (b .is) .1,
-          ap bitN (b .direction) ∙ gave o (a .reversed .now) (λ t. bitN (t .reversed)) (b .track) (b .is) .1,
-        ),
-      ),
-    )
+returns c = (read-so _ _ false _ (forward c), c .before .before .before .before .before .read .ensures .1)
 
 same-length-2 : tie.Need-same-length-2
 same-length-2 c = search needs
 
 returns-2 : tie.Need-returns-2
-returns-2 c =
-    let r = c .before .before .before .before .before in
-    let a = r .before .before .before .before .args in
-    let o = track2Rule (a .stream .now) (a .bits) (length (a .out .now)) in
-    let b = behind o true _ (backward c) in (
-      ap numberIn (b .is),
-      (
-        r .read .ensures .1,
-        (
-          b .count ∙ gave o (a .count .now) (λ t. length (t .chars)) (b .track) (b .is) .1,
-          ap bitN (b .direction) ∙ gave o (a .reversed .now) (λ t. bitN (t .reversed)) (b .track) (b .is) .1,
-        ),
-      ),
-    )
+returns-2 c = (read-so _ _ true _ (backward c), c .before .before .before .before .before .read .ensures .1)
 
 same-length-3 : tie.Need-same-length-3
 same-length-3 c = search needs
@@ -89,18 +72,7 @@ returns-3 : tie.Need-returns-3
 returns-3 c =
     let w = c .before .before in
     let r = w .before .before .before .before in
-    let a = r .before .before .before .before .args in
-    let o = track2Rule (a .stream .now) (a .bits) (length (a .out .now)) in
-    let e = refused o _ (sym (ap said (w .why .given .1)) ∙ r .read .ensures .0) in (
-      c .number .ensures ∙ ap numberIn e,
-      (
-        r .read .ensures .1,
-        (
-          kept o (a .count .now) (λ t. length (t .chars)) _ e .1,
-          kept o (a .reversed .now) (λ t. bitN (t .reversed)) _ e .1,
-        ),
-      ),
-    )
+    (kept _ _ _ _ _ (c .number .ensures) (refused _ _ (sym (ap said (w .why .given .1)) ∙ r .read .ensures .0)), r .read .ensures .1)
 
 pub gw-track2-read-spec : {M : Type 1} → statement M
 gw-track2-read-spec =

@@ -1,5 +1,4 @@
-use Prim.Native.Nat.{ℕ}
-use mathlib.Core.Path.{sym, ap, _∙_}
+use mathlib.Core.Path.{sym, ap}
 use Rattle.swipe.specs.Swipe.{saidSwiped}
 use Rattle.goltwarden.proofs.Handed.{gave, kept}
 use borrow.Author.Needs.{needs}
@@ -26,11 +25,8 @@ same-length-2 c = search needs
 
 returns : tie.Need-returns
 returns c =
-    let s = c .before .before .before .before .before .before .before in
-    let w = s .swipe .ensures in
-    let e = sym (ap saidSwiped (c .before .s .given .1)) ∙ w .so .answer in
-    let h = gave _ (s .before .before .before .before .before .before .before .before .args .serial .now) (λ (n : ℕ). n) _ e in
-    record { view = w .view; is = w .is; number = h .0; serial = h .1; journal = w .so .journal; scratch = w .scratch }
+    let l = c .before .before .before .before .before .before .before .swipe in
+    record { answer = l .result; allowed = l .ensures; handed = gave _ _ _ _ (sym (ap saidSwiped (c .before .s .given .1))) }
 
 same-length-3 : tie.Need-same-length-3
 same-length-3 c = search needs
@@ -40,11 +36,8 @@ same-length-4 c = search needs
 
 returns-2 : tie.Need-returns-2
 returns-2 c =
-    let s = c .before .before .before .before .before .before .before .before in
-    let w = s .swipe .ensures in
-    let e = sym (ap saidSwiped (c .before .before .why .given .1)) ∙ w .so .answer in
-    let h = kept _ (s .before .before .before .before .before .before .before .before .args .serial .now) (λ (n : ℕ). n) _ e in
-    record { view = w .view; is = w .is; number = c .number .ensures ∙ h .0; serial = h .1; journal = w .so .journal; scratch = w .scratch }
+    let l = c .before .before .before .before .before .before .before .before .swipe in
+    record { answer = l .result; allowed = l .ensures; handed = kept _ _ _ _ _ (c .number .ensures) (sym (ap saidSwiped (c .before .before .why .given .1))) }
 
 pub gw-swipe-spec : {M : Type 1} → statement M
 gw-swipe-spec =
