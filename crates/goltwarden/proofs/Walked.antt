@@ -13,7 +13,7 @@ use Rattle.journal.specs.declared.Tallied.{Tallied}
 use Rattle.reasons.proofs.Laws.{gives-refuses}
 use Rattle.journal.specs.Rules.{showRule}
 use Rattle.journal.proofs.Rule.{show-bad}
-use Rattle.goltwarden.specs.Walk.{firstAbove, walkRule, walkPlace}
+use Rattle.goltwarden.specs.Walk.{firstAbove, walkRule, walkPlace, stepOf}
 use Rattle.goltwarden.specs.Hands.{Hands}
 use Rattle.goltwarden.proofs.Handed.{gave, behind-is}
 
@@ -47,7 +47,7 @@ walk-done j b s r e = ap {B = Outcome ℕ} gives e
 
 -- the step as C gets it: the serial s, and where its record begins
 pub walk-gave : (j : List ℕ) (b above : ℕ) (x : ℕ × ℕ) (s at : ℕ) → s ≡ firstAbove j b above → at ≡ walkPlace j s
-    → Hands (walkRule (Is b) j above) x (λ t. (t, walkPlace j t)) 0 (s, at)
+    → Hands (walkRule (Is b) j above) x (stepOf j) 0 (s, at)
 walk-gave j b above x s at e f = behind-is _ _ _ _ _ _ (ap (λ (p : ℕ). (s, p)) f) (gave _ _ _ s (walk-done j b above s e))
 
 -- a journal of which something is shown has at most 65,536 bytes

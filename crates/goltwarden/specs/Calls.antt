@@ -11,14 +11,14 @@ use Rattle.creditor.specs.Creditor as creditor
 use Rattle.iban.specs.Iban as iban
 use Rattle.bits.specs.Stream.{bitN}
 use Rattle.track2.specs.Track2.{track2Rule, track2Bytes}
-use Rattle.layout.specs.Layout.{layoutRule, fieldCut}
+use Rattle.layout.specs.Layout.{layoutRule}
 use Rattle.slots.specs.Views.{Seen}
 use Rattle.journal.specs.Rules.{Books, Releases, Finds, TellsOf, saidBooked, saidReleased, saidShown, saidTold}
 use Rattle.journal.specs.Survey.{Surveys, saidSurveyed}
 use Rattle.swipe.specs.Swipe.{Given, saidSwiped}
 use Rattle.swipe.specs.Swipe as swipe
-use Rattle.goltwarden.specs.Walk.{walkRule, walkPlace}
-use Rattle.goltwarden.specs.Cards.{tableOf, offsetOf}
+use Rattle.goltwarden.specs.Walk.{walkRule, stepOf}
+use Rattle.goltwarden.specs.Values.{tableOf, offsetOf, countsOf, startsOf}
 use Rattle.goltwarden.specs.Hands.{Answers, Hands, HandsOn}
 
 abbrev pub VersionIs : ℕ → Type 0
@@ -43,12 +43,10 @@ RangeFinds site acquirer pan x r y = Hands (rangeRule site acquirer pan) x (λ p
 -- ---- the stripe
 
 abbrev pub Track2Reads : List ℕ → ℕ → List ℕ → ℕ × ℕ → ℕ → ℕ × ℕ → List ℕ → Type 0
-Track2Reads s bits out x r y k =
-    Hands (track2Rule s bits (length out)) x (λ t. (length (t .chars), bitN (t .reversed))) r y × (k ≡ track2Bytes s bits out)
+Track2Reads s bits out x r y k = Hands (track2Rule s bits (length out)) x countsOf r y × (k ≡ track2Bytes s bits out)
 
 abbrev pub LayoutReads : List ℕ → ℕ × ℕ × ℕ × ℕ → ℕ → ℕ × ℕ × ℕ × ℕ → Type 0
-LayoutReads chars x r y =
-    Hands (layoutRule chars) x (λ d. (d .pan, fieldCut 4 (d .expiry) .start, fieldCut 3 (d .service) .start, d .rest)) r y
+LayoutReads chars x r y = Hands (layoutRule chars) x startsOf r y
 
 -- ---- check pairs
 
@@ -79,7 +77,7 @@ abbrev pub JournalTells : List ℕ → ℕ × ℕ × ℕ × ℕ → ℕ → ℕ 
 JournalTells j x r y = HandsOn (TellsOf j) saidTold x (λ t. (t .count, t .sum, t .oldest, t .newest)) r y
 
 abbrev pub JournalWalks : List ℕ → ℕ → ℕ × ℕ → ℕ → ℕ × ℕ → Type 0
-JournalWalks j above x r y = Seen j (λ m. Hands (walkRule m j above) x (λ s. (s, walkPlace j s)) r y)
+JournalWalks j above x r y = Seen j (λ m. Hands (walkRule m j above) x (stepOf j) r y)
 
 abbrev pub JournalSurveys : List ℕ → List ℕ → ℕ → ℕ → ℕ → List ℕ → Type 0
 JournalSurveys j out x r y k = HandsOn (λ q. Surveys j out q k) saidSurveyed x bitN r y

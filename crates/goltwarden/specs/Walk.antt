@@ -18,3 +18,7 @@ walkRule m j s = demand (formed m) 16 (gives (firstAbove j (newest m) s))
 abbrev pub walkPlace : List ℕ → ℕ → ℕ
 walkPlace j zero = 0
 walkPlace j (suc s) = place (slotsOf j) (suc s)
+
+-- the serial and that place, as C has them
+abbrev pub stepOf : List ℕ → ℕ → ℕ × ℕ
+stepOf j s = (s, walkPlace j s)

@@ -2,11 +2,13 @@ use borrow.Author.Needs.{needs}
 use Prim.Native.Nat.{ℕ, _≤_, _<_}
 use mathlib.Core.Path.{_≡_, refl, sym, ap, _∙_}
 use native.Mathlib.Omega.{arith}
-use Rattle.reasons.specs.Reasons.{gives}
+use Rattle.reasons.specs.Reasons.{Outcome, gives}
 use Rattle.layout.specs.Layout.{Places, layoutRule, said, fieldCut}
 use Rattle.layout.specs.declared.Field.{Field}
 use Rattle.layout.specs.declared.Field.the-variants.{Absent, At}
 use Rattle.layout.proofs.Laws.{places-small}
+use Rattle.goltwarden.specs.Values.{startsOf}
+use Rattle.goltwarden.specs.Hands.{Hands}
 use Rattle.goltwarden.proofs.Handed.{gave, kept, behind-is}
 use Rattle.goltwarden.proofs.stripe.gw_layout_read.Statement.{statement}
 use Rattle.goltwarden.proofs.stripe.gw_layout_read.Tie as tie
@@ -15,6 +17,14 @@ use Rattle.goltwarden.proofs.stripe.gw_layout_read.Tie as tie
 same-start : (f : Field) (n m : ℕ) → fieldCut n f .start ≡ fieldCut m f .start
 same-start Absent n m = refl
 same-start (At q) n m = refl
+
+-- what C gets of a division into the places d, the starts of whose fields were told apart from their sizes
+divided-so : (o : Outcome Places) (x : ℕ × ℕ × ℕ × ℕ) (d : Places) (e s : ℕ) → e ≡ fieldCut 0 (d .expiry) .start → s ≡ fieldCut 0 (d .service) .start
+    → gives d ≡ o → Hands o x startsOf 0 (d .pan, e, s, d .rest)
+divided-so o x d e s f g is =
+    let t = f ∙ same-start (d .expiry) 0 4 in
+    let v = g ∙ same-start (d .service) 0 3 in
+    behind-is _ _ _ _ _ _ (λ i. (d .pan, t i, v i, d .rest)) (gave _ _ _ d is)
 
 -- the places that the division gave
 abbrev places : tie.After-known-told → Places
@@ -59,10 +69,7 @@ number-requires c κs = search needs
 returns : tie.Need-returns
 returns c =
     let v = c .before in
-    let d = places (v .before) in
-    let e = v .place .ensures ∙ same-start (d .expiry) 0 4 in
-    let s = c .place2 .ensures ∙ same-start (d .service) 0 3 in
-    behind-is _ _ _ _ _ _ (λ i. (d .pan, e i, s i, d .rest)) (gave _ _ _ d (rule-is (v .before)))
+    divided-so _ _ (places (v .before)) _ _ (v .place .ensures) (c .place2 .ensures) (rule-is (v .before))
 
 returns-2 : tie.Need-returns-2
 returns-2 c =

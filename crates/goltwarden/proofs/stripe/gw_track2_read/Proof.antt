@@ -9,6 +9,7 @@ use Rattle.bits.specs.Stream.{bitN}
 use Rattle.bits.specs.Reading.{Track, said, counted}
 use Rattle.track2.specs.Track2.{track2Rule}
 use Rattle.track2.proofs.Counts.{behind, refused, few}
+use Rattle.goltwarden.specs.Values.{countsOf}
 use Rattle.goltwarden.specs.Hands.{Hands}
 use Rattle.goltwarden.proofs.Handed.{gave, kept, behind-is}
 use Rattle.goltwarden.proofs.stripe.gw_track2_read.Statement.{statement}
@@ -27,7 +28,7 @@ backward c = sym (ap said (c .before .n2 .given .1)) ∙ c .before .before .befo
 
 -- what C gets of a reading in direction d of n characters
 read-so : (o : Outcome Track) (x : ℕ × ℕ) (d : Bool) (n : ℕ) → gives (d, n) ≡ counted o
-    → Hands o x (λ t. (length (t .chars), bitN (t .reversed))) 0 (n, bitN d)
+    → Hands o x countsOf 0 (n, bitN d)
 read-so o x d n e =
     let b = behind o d n e in
     behind-is _ _ _ _ _ _ (λ i. (b .count i, bitN (b .direction i))) (gave _ _ _ (b .track) (b .is))
