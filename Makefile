@@ -1,25 +1,21 @@
 # make test    every check of the project; its last line is that of rt ci, 'N passed, 0 failed'
 # make prove   rt ci alone: every crate proved from nothing, every must-fail edit tried, every program run
+# make built   the tests of what is built: the library against its reference, the program card, README's commands
 # make run     the battery swap, told by the program card
 # make soak    the library held against the reference for as long as you like
 # make bench   what each call costs, beside plain C: docs/BENCHMARK.md
+# make times   what each crate's check cost in the last make test: docs/TIMES.md
 
-.PHONY: test prove run soak bench checks
+.PHONY: test prove built run soak bench times
 
-test: checks
-	@rt ci
+test:
+	@tests/gate
 
 prove:
 	@rt ci
 
-# the other checks come first: they are quick, and each says what is wrong
-checks:
-	@tests/needs rt python3
-	@tests/promises
-	@tests/run
-	@tests/program card
-	@tests/card/run
-	@tests/readme
+built:
+	@tests/built
 
 run:
 	@tests/needs rt
@@ -31,3 +27,6 @@ soak:
 
 bench:
 	@bench/run
+
+times:
+	@tests/times
