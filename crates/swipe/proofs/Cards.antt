@@ -22,7 +22,7 @@ use Rattle.track2.proofs.Laws.{at-most-37}
 use Rattle.layout.specs.Layout.{Places, layoutRule}
 use Rattle.layout.proofs.Laws.{accepted-form, pan-fits}
 use Rattle.journal.proofs.Rule.{Fine}
-use Rattle.swipe.specs.Swipe.{Given, Payer, panRule, charsRule, cardRule, saidCard, panSize}
+use Rattle.swipe.specs.Swipe.{Given, Payer, payerRule, charsRule, cardRule, saidCard, panSize}
 use Rattle.swipe.specs.declared.Card.{Card}
 use Rattle.swipe.specs.declared.Card.the-variants.{Pays, Refused}
 
@@ -44,24 +44,24 @@ module _ (site acquirer pan : List ℕ) (l : panLength (length pan) ≡ true) (d
   unfolding luhnRule
   luhn-of-pan = let w = inside-is 13 19 (length pan) l in simp (inside 2 40 (length pan) (omega arith) (omega arith), d)
 
-  pub luhn-refused : (n : ℕ) → luhnRule pan ≡ refuses n → panRule site acquirer pan ≡ refuses n
-  unfolding panRule
+  pub luhn-refused : (n : ℕ) → luhnRule pan ≡ refuses n → payerRule site acquirer pan ≡ refuses n
+  unfolding payerRule
   luhn-refused n e = stopped-alike (passes pan) 4 n _ (sym luhn-of-pan ∙ e)
 
   luhn-passed : luhnRule pan ≡ gives tt → passes pan ≡ true
   luhn-passed e = passed (passes pan) 4 (gives tt) tt (sym luhn-of-pan ∙ e) .0
 
-  pub no-label : (n : ℕ) → luhnRule pan ≡ gives tt → labelRule site acquirer pan ≡ refuses n → panRule site acquirer pan ≡ refuses n
-  unfolding panRule
+  pub no-label : (n : ℕ) → luhnRule pan ≡ gives tt → labelRule site acquirer pan ≡ refuses n → payerRule site acquirer pan ≡ refuses n
+  unfolding payerRule
   no-label n e f = simp (luhn-passed e, f)
 
-  pub with-label : (x : ℕ) → luhnRule pan ≡ gives tt → labelRule site acquirer pan ≡ gives x → panRule site acquirer pan ≡ gives (record { pan = pan; label = x })
-  unfolding panRule
+  pub with-label : (x : ℕ) → luhnRule pan ≡ gives tt → labelRule site acquirer pan ≡ gives x → payerRule site acquirer pan ≡ gives (record { pan = pan; label = x })
+  unfolding payerRule
   with-label x e f = simp (luhn-passed e, f)
 
 -- a PAN that pays passes, and is the PAN that was asked about
-pub pan-pays : (site acquirer pan : List ℕ) (p : Payer) → panRule site acquirer pan ≡ gives p → (passes pan ≡ true) × (p .pan ≡ pan)
-unfolding panRule
+pub pan-pays : (site acquirer pan : List ℕ) (p : Payer) → payerRule site acquirer pan ≡ gives p → (passes pan ≡ true) × (p .pan ≡ pan)
+unfolding payerRule
 pan-pays site acquirer pan p e =
     let a = passed (passes pan) 4 _ p e in
     let b = went-on (labelRule site acquirer pan) _ p (a .1) in
@@ -86,11 +86,11 @@ module _ (site acquirer chars : List ℕ) where
   unfolding charsRule
   bad-layout n e = rw e
 
-  with-pan : (d : Places) → layoutRule chars ≡ gives d → charsRule site acquirer chars ≡ panRule site acquirer (take (d .pan) chars)
+  with-pan : (d : Places) → layoutRule chars ≡ gives d → charsRule site acquirer chars ≡ payerRule site acquirer (take (d .pan) chars)
   unfolding charsRule
   with-pan d e = rw e
 
-  pub chars-card : (d : Places) (r : Card) → layoutRule chars ≡ gives d → saidCard r (take (d .pan) chars) ≡ panRule site acquirer (take (d .pan) chars)
+  pub chars-card : (d : Places) (r : Card) → layoutRule chars ≡ gives d → saidCard r (take (d .pan) chars) ≡ payerRule site acquirer (take (d .pan) chars)
       → panSize r ≤ length (take (d .pan) chars) → (saidCard r chars ≡ charsRule site acquirer chars) × (panSize r ≤ length chars)
   chars-card d r e f h =
       let fits = laid chars d e .fits in

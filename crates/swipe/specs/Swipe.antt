@@ -36,15 +36,15 @@ pub record Payer : Type 0 where
   pub label : ℕ
 
 -- of a PAN: "Luhn 4, 15"
-unfoldable pub panRule : List ℕ → List ℕ → List ℕ → Outcome Payer
-panRule site acquirer pan =
+unfoldable pub payerRule : List ℕ → List ℕ → List ℕ → Outcome Payer
+payerRule site acquirer pan =
     demand (passes pan) 4
     (andThen (labelRule site acquirer pan)
     (λ l. gives (record { pan = pan; label = l })))
 
 -- of the characters between the sentinels: "layout 6", then their PAN
 unfoldable pub charsRule : List ℕ → List ℕ → List ℕ → Outcome Payer
-charsRule site acquirer chars = andThen (layoutRule chars) (λ d. panRule site acquirer (take (d .pan) chars))
+charsRule site acquirer chars = andThen (layoutRule chars) (λ d. payerRule site acquirer (take (d .pan) chars))
 
 -- of the stripe: "the reading's refusals", with an output that is long enough, then the characters
 unfoldable pub cardRule : Given → Outcome Payer

@@ -14,7 +14,7 @@ ghost use Rattle.text.specs.Numbers.{put};
 ghost use Rattle.pan.specs.Pan.{panLength};
 ghost use Rattle.ranges.specs.Ranges.{tableOk};
 ghost use Rattle.slots.specs.Views.{Seen};
-ghost use Rattle.swipe.specs.Swipe.{given, panRule, charsRule, cardRule, saidCard, panSize, Charges, Swipes};
+ghost use Rattle.swipe.specs.Swipe.{given, payerRule, charsRule, cardRule, saidCard, panSize, Charges, Swipes};
 
 // The serial that the payment was booked with.
 pub enum Swiped {
@@ -31,7 +31,7 @@ pub enum Card {
 // Luhn and the look-up.
 fn card_of_pan(pan: &[u8], site: &[u8], acquirer: &[u8]) -> Card
     requires { ⌜ (tableOk (now site) ≡ true) × (tableOk (now acquirer) ≡ true) × (panLength (length (now pan)) ≡ true) × (allDigits (now pan) ≡ true) ⌝ }
-    ensures { λ r. ⌜ (saidCard r (now (pan .entry)) ≡ panRule (now (site .entry)) (now (acquirer .entry)) (now (pan .entry))) × (panSize r ≤ length (now (pan .entry))) ⌝ }
+    ensures { λ r. ⌜ (saidCard r (now (pan .entry)) ≡ payerRule (now (site .entry)) (now (acquirer .entry)) (now (pan .entry))) × (panSize r ≤ length (now (pan .entry))) ⌝ }
 {
     match luhn::test(pan) {
         Tested::Refused(r) => Card::Refused(r),
