@@ -18,17 +18,17 @@ fn is_plain(b: u8) -> bool
     text::is_capital(b)
 }
 
+// Looks at every byte, with no way out in between: the compiler then takes sixteen at a time.
 fn all_plain(s: &[u8]) -> bool
     ensures { λ r. ⌜ r ≡ allPlain (now (s .entry)) ⌝ }
 {
+    let mut plain = true;
     let mut i = 0;
     while i < s.len() {
-        if !is_plain(s[i]) {
-            return false;
-        }
+        plain = plain & is_plain(s[i]);
         i += 1;
     }
-    true
+    plain
 }
 
 // `RF`, and digits at 3 and 4.

@@ -3,6 +3,7 @@ use mod97::Made;
 use reasons::Reason;
 use reasons::Tested;
 ghost use mathlib.Core.Path.{_≡_};
+ghost use mathlib.Core.List.{map};
 ghost use Prim.Native.Nat.{_<_};
 ghost use lib.ListN.{getD};
 ghost use Rattle.reasons.specs.Reasons.{said};
@@ -50,12 +51,11 @@ const COUNTRIES: [[u8; 8]; 34] = [
     [b'S', b'M', 1, b'a', 10, b'n', 12, b'c'],
 ];
 
-// The only function that touches the table: a row by value.
-fn country(i: usize) -> [u8; 8]
-    requires { ⌜ i < 34 ⌝ }
-    ensures { λ r. ⌜ r ≡ stored (getD table i noRow) ⌝ }
+// The only function that touches the table: all its rows, by value.
+fn countries() -> [[u8; 8]; 34]
+    ensures { λ r. ⌜ r ≡ map stored table ⌝ }
 {
-    COUNTRIES[i]
+    COUNTRIES
 }
 
 // Whether a country is listed, and its row: zeros where it is not.
@@ -67,9 +67,10 @@ struct Found {
 fn find(a: u8, b: u8) -> Found
     ensures { λ r. ⌜ (r .known ≡ listedIn table a b) × (r .row ≡ stored (rowIn table a b)) ⌝ }
 {
+    let rows = countries();
     let mut i = 0;
     while i < 34 {
-        let row = country(i);
+        let row = rows[i];
         if row[0] == a {
             if row[1] == b {
                 return Found { known: true, row };

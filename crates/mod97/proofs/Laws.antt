@@ -4,7 +4,7 @@ use mathlib.Core.Path.{_≡_, refl, sym, ap, _∙_}
 use mathlib.Core.Bool.{Bool, true, false, cond}
 use mathlib.Core.List.{List, [], _∷_, _++_}
 use native.Mathlib.Omega.{arith}
-use native.Mathlib.Nat.{mul-comm, mod-mod}
+use native.Mathlib.Nat.{mul-comm}
 use lib.Dec.{ltb}
 use lib.ListN.{take, drop, length, getD, length-drop, drop-of-length-le}
 use lib.Seq.{drop-cons, take-all}
@@ -83,25 +83,22 @@ pub number-inj : (s : List ℕ) (a b : ℕ) → numberAfter a s % 97 ≡ numberA
 number-inj [] a b h = rw (number-none a, number-none b) at h
 number-inj (c ∷ s) a b h = step-inj a b c (number-inj s (a * shift c + number c) (b * shift c + number c) (rw (number-cons a c s, number-cons b c s) at h))
 
--- a remainder may stand for the number before a text
-number-mod : (n : ℕ) (s : List ℕ) → numberAfter (n % 97) s % 97 ≡ numberAfter n s % 97
-number-mod n s = number-cong s (n % 97) n (mod-mod n 97)
+-- one turn of the loop, from a number w that leaves what v leaves; and its end
+pub number-turn : (s : List ℕ) (i v w : ℕ) → i < length s → w % 97 ≡ v % 97
+    → numberAfter (numberAfter w (getD s i 0 ∷ [])) (drop (suc i) s) % 97 ≡ numberAfter v (drop i s) % 97
+number-turn s i v w h e =
+    ap (λ (m : ℕ). m % 97) (sym (number-append w (getD s i 0 ∷ []) (drop (suc i) s)))
+    ∙ ap (λ (l : List ℕ). numberAfter w l % 97) (sym (drop-cons s i 0 h))
+    ∙ number-cong (drop i s) w v e
 
--- one turn of the loop, and its end
-pub number-turn : (s : List ℕ) (i r : ℕ) → i < length s → numberAfter (numberAfter r (getD s i 0 ∷ []) % 97) (drop (suc i) s) % 97 ≡ numberAfter r (drop i s) % 97
-number-turn s i r h =
-    number-mod (numberAfter r (getD s i 0 ∷ [])) (drop (suc i) s)
-    ∙ ap (λ (m : ℕ). m % 97) (sym (number-append r (getD s i 0 ∷ []) (drop (suc i) s)))
-    ∙ ap (λ (l : List ℕ). numberAfter r l % 97) (sym (drop-cons s i 0 h))
+pub number-end : (s : List ℕ) (i v : ℕ) → length s ≤ i → numberAfter v (drop i s) ≡ v
+number-end s i v h = rw (drop-of-length-le s h) (number-none v)
 
-pub number-end : (s : List ℕ) (i r : ℕ) → length s ≤ i → r < 97 → numberAfter r (drop i s) % 97 ≡ r
-number-end s i r h l = rw (drop-of-length-le s h, number-none r) (omega arith)
-
--- two texts read one after the other, with a remainder between them
-pub number-joined : (s t : List ℕ) (r : ℕ) → r ≡ numberAfter 0 s % 97 → numberAfter r t % 97 ≡ numberAfter 0 (s ++ t) % 97
-number-joined s t r e = ap (λ (m : ℕ). numberAfter m t % 97) e ∙ number-mod (numberAfter 0 s) t ∙ ap (λ (m : ℕ). m % 97) (sym (number-append 0 s t))
+-- two texts read one after the other, from a number between them that leaves what the first leaves
+pub number-joined : (s t : List ℕ) (v : ℕ) → v % 97 ≡ numberAfter 0 s % 97 → numberAfter v t % 97 ≡ numberAfter 0 (s ++ t) % 97
+number-joined s t v e = number-cong t v (numberAfter 0 s) e ∙ ap (λ (m : ℕ). m % 97) (sym (number-append 0 s t))
 
 -- the rest of a text, then its first four characters
-pub moved-read : (s : List ℕ) (r : ℕ) → r ≡ numberAfter 0 (take (length s - 4) (drop 4 s)) % 97 → numberAfter r (take 4 s) % 97 ≡ leaves s
-moved-read s r e =
-    number-joined (drop 4 s) (take 4 s) r (e ∙ ap (λ (x : List ℕ). numberAfter 0 x % 97) (take-all (length s - 4) (drop 4 s) (omega (arith, length-drop 4 s))))
+pub moved-read : (s : List ℕ) (v : ℕ) → v % 97 ≡ numberAfter 0 (take (length s - 4) (drop 4 s)) % 97 → numberAfter v (take 4 s) % 97 ≡ leaves s
+moved-read s v e =
+    number-joined (drop 4 s) (take 4 s) v (e ∙ ap (λ (x : List ℕ). numberAfter 0 x % 97) (take-all (length s - 4) (drop 4 s) (omega (arith, length-drop 4 s))))

@@ -3,7 +3,7 @@ use Prim.Native.Nat.{ℕ, _+_, _*_, _-_, _<_, _≤_}
 use mathlib.Core.Path.{_≡_, refl}
 use mathlib.Core.Logic.{_⊎_, inl, inr}
 use native.Mathlib.Omega.{arith}
-use native.Mathlib.Decide.{ℕ-discrete}
+use native.Mathlib.Decide.{decLt, ℕ-discrete}
 use borrow.Author.Tests.{lt-ltb, le-ltb}
 use Rattle.text.specs.Bytes.{isDigit, isCapital}
 use Rattle.text.proofs.Tests.{inside-is}
@@ -18,6 +18,17 @@ number-low c h = rw (lt-ltb c 65 h)
 pub number-high : (c : ℕ) → 65 ≤ c → number c ≡ c - 55
 unfolding number
 number-high c h = rw (le-ltb c 65 h)
+
+-- bytes up to '9' have numbers of one digit, all others of two or more
+pub number-one : (c : ℕ) → c < 58 → number c < 10
+number-one c h = omega (arith, number-low c (omega arith))
+
+pub number-two : (c : ℕ) → 58 ≤ c → 10 ≤ number c
+number-two c h = go (decLt c 65)
+  where
+    go : Dec (c < 65) → 10 ≤ number c
+    go (yes l) = omega (arith, number-low c l)
+    go (no l) = omega (arith, number-high c (omega arith))
 
 -- a character whose number has one digit, or two; and two alike in that
 abbrev pub OneDigit : ℕ → Type 0

@@ -20,14 +20,14 @@ moved-paired (a ∷ b ∷ []) p body h = refl
 moved-paired (a ∷ b ∷ c ∷ letters) p body h = absurd (omega arith)
 
 -- what the code reads for it: the body, the letters, 00
-pub made-read : (letters body : List ℕ) (r q p : ℕ) → length letters ≡ 2 → r ≡ numberAfter 0 body % 97 → q ≡ numberAfter r letters % 97
-    → p ≡ numberAfter q (48 ∷ 48 ∷ []) % 97 → 98 - p ≡ pairFor letters body
+pub made-read : (letters body : List ℕ) (v w x : ℕ) → length letters ≡ 2 → v % 97 ≡ numberAfter 0 body % 97 → w % 97 ≡ numberAfter v letters % 97
+    → x % 97 ≡ numberAfter w (48 ∷ 48 ∷ []) % 97 → 98 - x % 97 ≡ pairFor letters body
 unfolding pairFor
-made-read letters body r q p h e f g =
+made-read letters body v w x h e f g =
     ap (λ (m : ℕ). 98 - m)
     (g
-    ∙ number-joined (body ++ letters) (48 ∷ 48 ∷ []) q (f ∙ number-joined body letters r e)
-    ∙ ap (λ (x : List ℕ). decimalOf x % 97) (append-assoc body letters (48 ∷ 48 ∷ []) ∙ sym (moved-paired letters 0 body h)))
+    ∙ number-joined (body ++ letters) (48 ∷ 48 ∷ []) w (f ∙ number-joined body letters v e)
+    ∙ ap (λ (t : List ℕ). decimalOf t % 97) (append-assoc body letters (48 ∷ 48 ∷ []) ∙ sym (moved-paired letters 0 body h)))
 
 -- a digit written after n
 digit-after : (n d : ℕ) (s : List ℕ) → d < 10 → numberAfter n ((48 + d) ∷ s) ≡ numberAfter (n * 10 + d) s

@@ -6,51 +6,60 @@ ghost use lib.ListN.{length};
 ghost use Rattle.mod97.specs.Text.{number, numberAfter};
 ghost use Rattle.mod97.specs.Pair.{leaves, pairDigits, pairOf, checks, pairFor};
 
-fn number_of(b: u8) -> u32
+fn number_of(b: u8) -> u64
     ensures { λ r. ⌜ (r ≡ number b) × (r ≤ 200) ⌝ }
 {
     if b < 65 {
         if b < 48 {
             return 0;
         }
-        return (b - 48) as u32;
+        return (b - 48) as u64;
     }
-    (b - 55) as u32
+    (b - 55) as u64
 }
 
-// The remainder once the character's number, of one digit or two, is written after r.
-fn written_after(r: u32, b: u8) -> u32
-    requires { ⌜ r < 97 ⌝ }
-    ensures { λ q. ⌜ (q ≡ numberAfter r (b ∷ []) % 97) × (q < 97) ⌝ }
+// A number that leaves what v leaves, and after which one more character can be written: v itself as long as it is short, so that a
+// remainder is taken every dozen characters and not after each.
+fn with_room(v: u64) -> u64
+    ensures { λ r. ⌜ (r % 97 ≡ v % 97) × (r < 100000000000000000) ⌝ }
 {
-    let n = number_of(b);
-    if n < 10 {
-        return (10 * r + n) % 97;
+    if v < 100000000000000000 {
+        return v;
     }
-    (100 * r + n) % 97
+    v % 97
 }
 
-// The remainder of the number that is read where the text's characters are written after start.
-fn remainder(s: &[u8], start: u32) -> u32
-    requires { ⌜ start < 97 ⌝ }
-    ensures { λ r. ⌜ (r ≡ numberAfter start (now (s .entry)) % 97) × (r < 97) ⌝ }
+// The number once the character's number, of one digit or two, is written after v.
+fn written_after(v: u64, b: u8) -> u64
+    requires { ⌜ v < 100000000000000000 ⌝ }
+    ensures { λ r. ⌜ r ≡ numberAfter v (b ∷ []) ⌝ }
 {
-    let mut r = start;
+    if b < 58 {
+        return 10 * v + number_of(b);
+    }
+    100 * v + number_of(b)
+}
+
+// A number that leaves what the one leaves that is read where the text's characters are written after start.
+fn read_after(s: &[u8], start: u64) -> u64
+    ensures { λ r. ⌜ r % 97 ≡ numberAfter start (now (s .entry)) % 97 ⌝ }
+{
+    let mut v = start;
     let mut i = 0;
     while i < s.len() {
-        r = written_after(r, s[i]);
+        v = written_after(with_room(v), s[i]);
         i += 1;
     }
-    r
+    v
 }
 
 // What is left once the first four characters are moved to the end.
-fn moved_remainder(s: &[u8]) -> u32
+fn moved_remainder(s: &[u8]) -> u64
     requires { ⌜ 4 ≤ length (now s) ⌝ }
     ensures { λ r. ⌜ r ≡ leaves (now (s .entry)) ⌝ }
 {
-    let r = remainder(&s[4..], 0);
-    remainder(&s[0..4], r)
+    let v = read_after(&s[4..], 0);
+    read_after(&s[0..4], v) % 97
 }
 
 // Whether places 3 and 4 hold digits.
@@ -64,7 +73,7 @@ pub fn pair_digits(s: &[u8]) -> bool
     text::is_digit(s[3])
 }
 
-fn pair_of(s: &[u8]) -> u32
+fn pair_of(s: &[u8]) -> u64
     requires { ⌜ 4 ≤ length (now s) ⌝ }
     ensures { λ r. ⌜ r ≡ pairOf (now (s .entry)) ⌝ }
 {
@@ -91,7 +100,7 @@ pub fn pair_for(letters: &[u8], body: &[u8]) -> u32
     requires { ⌜ length (now letters) ≡ 2 ⌝ }
     ensures { λ r. ⌜ r ≡ pairFor (now (letters .entry)) (now (body .entry)) ⌝ }
 {
-    let r = remainder(body, 0);
-    let q = remainder(letters, r);
-    98 - remainder(b"00", q)
+    let v = read_after(body, 0);
+    let w = read_after(letters, v);
+    (98 - read_after(b"00", w) % 97) as u32
 }

@@ -3,8 +3,9 @@ use reasons::Reason;
 use reasons::Tested;
 ghost use mathlib.Core.Path.{_≡_};
 ghost use mathlib.Core.Bool.{true};
-ghost use Prim.Native.Nat.{_≤_, _<_};
-ghost use lib.ListN.{length, getD};
+ghost use mathlib.Core.List.{_++_};
+ghost use Prim.Native.Nat.{_≤_};
+ghost use lib.ListN.{length, drop, replicate};
 ghost use Rattle.text.specs.Numbers.{put};
 ghost use Rattle.pan.specs.Pan.{panLength, frontShown, backShown, masked, Masks};
 
@@ -22,31 +23,29 @@ fn back_shown(n: usize) -> usize
     4
 }
 
-// The byte at i of the masked text.
-fn masked_at(pan: &[u8], i: usize) -> u8
-    requires { ⌜ (panLength (length (now pan)) ≡ true) × (i < length (now pan)) ⌝ }
-    ensures { λ r. ⌜ r ≡ getD (masked (now (pan .entry))) i 0 ⌝ }
+// Writes n stars over the front of the output.
+fn write_stars(out: &mut [u8], n: usize)
+    requires { ⌜ n ≤ length (now out) ⌝ }
+    ensures { λ _. ⌜ now (out .exit) ≡ replicate n 42 ++ drop n (now (out .entry)) ⌝ }
 {
-    let n = pan.len();
-    if i < front_shown(n) {
-        return pan[i];
+    let mut i = 0;
+    while i < n {
+        out[i] = b'*';
+        i += 1;
     }
-    if i < n - back_shown(n) {
-        return b'*';
-    }
-    pan[i]
 }
 
-// Writes the masked text over the front of the output.
+// Writes the masked text over the front of the output: stars, and the digits shown over them. No hidden digit is ever written.
 fn write_masked(pan: &[u8], out: &mut [u8])
     requires { ⌜ (panLength (length (now pan)) ≡ true) × (length (now pan) ≤ length (now out)) ⌝ }
     ensures { λ _. ⌜ now (out .exit) ≡ put (now (out .entry)) 0 (masked (now (pan .entry))) ⌝ }
 {
-    let mut i = 0;
-    while i < pan.len() {
-        out[i] = masked_at(pan, i);
-        i += 1;
-    }
+    let n = pan.len();
+    let front = front_shown(n);
+    let back = n - back_shown(n);
+    write_stars(out, n);
+    text::put_at(out, 0, &pan[..front]);
+    text::put_at(out, back, &pan[back..]);
 }
 
 // Masks a PAN into the front of the output.

@@ -1,20 +1,21 @@
--- `all_plain`: what is left of the text is plain exactly where the whole is. Assumes nothing.
-use Prim.Native.Nat.{_≤_, _-_}
-use mathlib.Core.Path.{_≡_, refl, sym, _∙_}
+-- `all_plain`: what was seen of the text is plain, and so is what is left, exactly where the whole is. Assumes nothing.
+use Prim.Native.Nat.{_+_, _≤_, _-_}
+use mathlib.Core.Path.{_≡_, refl, sym, ap, _∙_}
+use mathlib.Core.Bool.{Bool, _&&_, and-true, and-assoc}
+use native.Mathlib.Numerals.{add-one}
 use native.Mathlib.Omega.{arith}
 use lib.ListN.{length, drop}
-use borrow.Author.Tests.{not-true, not-false}
 use borrow.Author.Needs.{needs}
-use Rattle.text.proofs.Every.{end, turn-yes, turn-no}
+use Rattle.text.proofs.Every.{end, turn}
 use Rattle.creditor.specs.Creditor.{isPlain, allPlain}
 use Rattle.creditor.proofs.all_plain.Statement.{statement}
 use Rattle.creditor.proofs.all_plain.Tie as tie
 
 abbrev Inv-loop : tie.InvT-loop
-Inv-loop s i₀ i = (i ≤ length s) × (allPlain (drop i s) ≡ allPlain s)
+Inv-loop s plain₀ i₀ plain i = (i ≤ length s) × ((plain && allPlain (drop i s)) ≡ allPlain s)
 
 abbrev μ-loop : tie.MeasureT-loop
-μ-loop s i₀ i = length s - i
+μ-loop s plain₀ i₀ plain i = length s - i
 
 loop-holds : tie.Need-loop-holds Inv-loop μ-loop
 loop-holds c = (omega arith, refl)
@@ -25,12 +26,6 @@ shared-slice-read-is-plain c = omega arith
 is-plain-requires : tie.Need-is-plain-requires Inv-loop μ-loop
 is-plain-requires c κs = search needs
 
-returns : tie.Need-returns Inv-loop μ-loop
-returns c =
-    let at-loop = c .before .before .before .before in
-    let s = at-loop .before .before .args .s .now in
-    turn-no isPlain s (at-loop .loop .i) (allPlain s) (omega arith) (at-loop .loop .inv .1) (sym (c .before .is-plain .ensures) ∙ not-true _ (c .if1 .taken))
-
 add-i : tie.Need-add-i Inv-loop μ-loop
 add-i c = omega arith
 
@@ -39,12 +34,19 @@ loop-less c = omega arith
 
 loop-again : tie.Need-loop-again Inv-loop μ-loop
 loop-again c =
-    let at-loop = c .before .before .before .before in
-    let s = at-loop .before .before .args .s .now in
-    (omega arith, turn-yes isPlain s (at-loop .loop .i) (allPlain s) (omega arith) (at-loop .loop .inv .1) (sym (c .before .is-plain .ensures) ∙ not-false _ (c .if1 .left)))
+    let at-loop = c .before .before .before in
+    let l = at-loop .loop in
+    let s = at-loop .before .before .args .s .now in (
+      omega arith,
+      and-assoc (l .plain) (c .is-plain .result) (allPlain (drop (l .i + 1) s))
+          ∙ ap (λ (t : Bool). l .plain && t) (rw (c .is-plain .ensures, add-one) (sym (turn isPlain s (l .i) (omega arith))))
+          ∙ l .inv .1,
+    )
 
-returns-2 : tie.Need-returns-2 Inv-loop μ-loop
-returns-2 c = sym (end isPlain (c .before .before .before .args .s .now) (c .before .loop .i) (omega arith)) ∙ c .before .loop .inv .1
+returns : tie.Need-returns Inv-loop μ-loop
+returns c =
+    let l = c .before .loop in
+    sym (ap (λ (t : Bool). l .plain && t) (end isPlain (c .before .before .before .args .s .now) (l .i) (omega arith)) ∙ and-true (l .plain)) ∙ l .inv .1
 
 pub all-plain-spec : {M : Type 1} → statement M
 all-plain-spec =
@@ -55,8 +57,7 @@ all-plain-spec =
     loop-holds
     shared-slice-read-is-plain
     is-plain-requires
-    returns
     add-i
     loop-less
     loop-again
-    returns-2)
+    returns)

@@ -1,13 +1,13 @@
 -- `find`: the search in what is left of the table finds what the search in the whole finds. Assumes nothing.
 use Prim.Native.Nat.{ℕ, _≤_, _-_}
 use mathlib.Core.Logic.{inl, inr, ⊎-elim}
-use mathlib.Core.List.{List}
+use mathlib.Core.List.{List, []}
 use mathlib.Core.Path.{_≡_, refl, sym, ap, _∙_}
 use native.Mathlib.Omega.{arith}
 use lib.ListN.{drop, getD}
 use borrow.Author.Needs.{needs}
-use Rattle.iban.specs.Countries.{table, listedIn, rowIn}
-use Rattle.iban.proofs.Rows.{hit, other, none, in-table, past-table}
+use Rattle.iban.specs.Countries.{table, noRow, listedIn, rowIn}
+use Rattle.iban.proofs.Rows.{row-at, hit, other, none, in-table, past-table}
 use Rattle.iban.specs.Stored.{stored}
 use Rattle.iban.proofs.find.Statement.{statement}
 use Rattle.iban.proofs.find.Tie as tie
@@ -17,16 +17,29 @@ byte : (j : ℕ) {r q : List ℕ} {x : ℕ} → r ≡ q → getD r j 0 ≡ x →
 byte j e h = ap (λ (s : List ℕ). getD s j 0) (sym e) ∙ h
 
 abbrev Inv-loop : tie.InvT-loop
-Inv-loop a b i₀ i = (i ≤ 34) × (listedIn (drop i table) a b ≡ listedIn table a b) × (rowIn (drop i table) a b ≡ rowIn table a b)
+Inv-loop a b rows i₀ i = (i ≤ 34) × (listedIn (drop i table) a b ≡ listedIn table a b) × (rowIn (drop i table) a b ≡ rowIn table a b)
 
 abbrev μ-loop : tie.MeasureT-loop
-μ-loop a b i₀ i = 34 - i
+μ-loop a b rows i₀ i = 34 - i
+
+-- the row that is looked at
+row-is : (c : tie.After-row Inv-loop μ-loop)
+    → getD (c .before .before .before .countries .result) (c .before .before .loop .i) [] ≡ stored (getD table (c .before .before .loop .i) noRow)
+row-is c =
+    let i = c .before .before .loop .i in
+    ap (λ (rows : List (List ℕ)). getD rows i []) (c .before .before .before .countries .ensures) ∙ row-at [] i (omega arith)
+
+countries-requires : tie.Need-countries-requires Inv-loop μ-loop
+countries-requires c κs = search needs
 
 loop-holds : tie.Need-loop-holds Inv-loop μ-loop
 loop-holds c = (omega arith, refl, refl)
 
-country-requires : tie.Need-country-requires Inv-loop μ-loop
-country-requires c κs = search needs
+mul-row : tie.Need-mul-row Inv-loop μ-loop
+mul-row c = search needs
+
+array-copy-out-row : tie.Need-array-copy-out-row Inv-loop μ-loop
+array-copy-out-row c = search needs
 
 array-read-if1 : tie.Need-array-read-if1 Inv-loop μ-loop
 array-read-if1 c = search needs
@@ -38,7 +51,7 @@ returns : tie.Need-returns Inv-loop μ-loop
 returns c =
     let at-row = c .before .before in
     let l = at-row .before .before .loop in
-    let e = at-row .country .ensures in
+    let e = row-is at-row in
     let h = hit table _ _ (l .i) (in-table (l .i) (omega arith)) (byte 0 e (c .before .if1 .taken)) (byte 1 e (c .if2 .taken)) in
     (sym (h .0) ∙ l .inv .1, e ∙ ap stored (sym (h .1) ∙ l .inv .2))
 
@@ -52,7 +65,7 @@ loop-again : tie.Need-loop-again Inv-loop μ-loop
 loop-again c =
     let at-row = c .before in
     let l = at-row .before .before .loop in
-    let e = at-row .country .ensures in
+    let e = row-is at-row in
     let m = other table _ _ (l .i) (in-table (l .i) (omega arith))
     (⊎-elim
     (λ w. inr (λ z. w .1 .left (ap (λ (r : List ℕ). getD r 1 0) e ∙ z)))
@@ -72,8 +85,10 @@ find-spec =
     (tie.spec
     Inv-loop
     μ-loop
+    countries-requires
     loop-holds
-    country-requires
+    mul-row
+    array-copy-out-row
     array-read-if1
     array-read-if2
     returns

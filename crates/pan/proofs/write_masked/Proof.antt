@@ -1,68 +1,79 @@
--- `write_masked`: after i turns the output is the entry's with the first i bytes of the masked text over its front. Assumes nothing.
-use Prim.Native.Nat.{ℕ, _≤_, _<_, _-_, _+_}
-use mathlib.Core.Path.{_≡_, refl, sym, ap, _∙_}
-use mathlib.Core.List.{List}
+-- `write_masked`: stars, and the digits shown over them. Assumes nothing.
+use Prim.Native.Nat.{_+_, _≤_}
+use mathlib.Core.Path.{sym}
 use native.Mathlib.Omega.{arith}
-use native.Mathlib.Nat.{zero-add}
-use lib.ListN.{length, getD, set, length-set}
-use lib.Seq.{paste, paste-zero}
-use Rattle.text.proofs.Put.{copy-step, copy-done}
-use Rattle.pan.specs.Pan.{masked}
-use Rattle.pan.proofs.Masked.{masked-length}
+use lib.ListN.{length}
+use lib.Seq.{length-take-le}
+use Rattle.pan.specs.Pan.{frontShown, backShown}
+use Rattle.pan.proofs.Masked.{shown-fits, masked-written}
 use borrow.Author.Needs.{needs}
 use Rattle.pan.proofs.write_masked.Statement.{statement}
 use Rattle.pan.proofs.write_masked.Tie as tie
 
-one-more : (d j s : List ℕ) (i v : ℕ) → j ≡ paste d 0 s i → v ≡ getD s i 0 → i < length s → length s ≤ length d → set j i v ≡ paste d 0 s (i + 1)
-one-more d j s i v e f h k = ap (λ (n : ℕ). set j n v) (sym (zero-add i)) ∙ ap (set j (0 + i)) f ∙ copy-step d j s 0 i e h (omega arith)
+shown-within : (c : tie.Start) → let n = length (c .args .pan .now) in frontShown n + backShown n ≤ n
+shown-within c = shown-fits (length (c .args .pan .now)) (c .pre .0)
 
-abbrev Inv-loop : tie.InvT-loop
-Inv-loop pan out₀ i₀ out i = (i ≤ length pan) × (out ≡ paste out₀ 0 (masked pan) i) × (length out ≡ length out₀)
+abbrev at-shown : tie.After-put-at-arg2 → tie.After-back-shown
+at-shown c = c .before .before .before .before .before .before
 
-abbrev μ-loop : tie.MeasureT-loop
-μ-loop pan out₀ i₀ out i = length pan - i
+front-shown-requires : tie.Need-front-shown-requires
+front-shown-requires c κs = search needs
 
-loop-holds : tie.Need-loop-holds Inv-loop μ-loop
-loop-holds c = let a = c .before .before .args in (omega arith, paste-zero (a .out .now) 0 (masked (a .pan .now)), refl)
+back-shown-requires : tie.Need-back-shown-requires
+back-shown-requires c κs = search needs
 
-masked-at-requires : tie.Need-masked-at-requires Inv-loop μ-loop
-masked-at-requires c κs = search needs
+sub-back : tie.Need-sub-back
+sub-back c = omega (arith, shown-within (c .before .before .before .before))
 
-slice-write-out : tie.Need-slice-write-out Inv-loop μ-loop
-slice-write-out c = omega arith
+write-stars-requires : tie.Need-write-stars-requires
+write-stars-requires c κs = search needs
 
-add-i : tie.Need-add-i Inv-loop μ-loop
-add-i c = omega arith
+slice-aggregate-put-at : tie.Need-slice-aggregate-put-at
+slice-aggregate-put-at c =
+    let s = at-shown c .before .before .before .before in
+    sym (length-take-le _ (s .args .pan .now) (omega (arith, shown-within s)))
 
-loop-less : tie.Need-loop-less Inv-loop μ-loop
-loop-less c = omega arith
+put-at-requires : tie.Need-put-at-requires
+put-at-requires c κs = omega (arith, slice-aggregate-put-at c, shown-within (at-shown c .before .before .before .before))
 
-loop-again : tie.Need-loop-again Inv-loop μ-loop
-loop-again c =
-    let l = c .before .before in
-    let a = l .before .before .before in
-    (omega arith, one-more _ _ _ (l .loop .i) _ (l .loop .inv .1) (c .masked-at .ensures) (omega (arith, masked-length (a .args .pan .now) (a .pre .0))) (omega (arith, masked-length (a .args .pan .now) (a .pre .0))), simp length-set (l .loop .inv .2))
+sub-put-at : tie.Need-sub-put-at
+sub-put-at c = search needs
 
-same-length : tie.Need-same-length Inv-loop μ-loop
-same-length c = omega arith
+part-put-at-start : tie.Need-part-put-at-start
+part-put-at-start c = search needs
 
-returns : tie.Need-returns Inv-loop μ-loop
+part-put-at-end : tie.Need-part-put-at-end
+part-put-at-end c = search needs
+
+put-at-requires-2 : tie.Need-put-at-requires-2
+put-at-requires-2 c κs = search needs
+
+same-length : tie.Need-same-length
+same-length c = search needs
+
+returns : tie.Need-returns
 returns c =
-    let a = c .before .before .before .before in
-    let n = masked-length (a .args .pan .now) (a .pre .0) in
-    copy-done _ _ _ _ (c .before .loop .i) (c .before .loop .inv .1) (omega arith) (omega arith)
+    let second = c .before .before in
+    let first = second .before .before .before .before .before in
+    let shown = at-shown (first .before) in
+    let s = shown .before .before .before .before in
+    masked-written (s .args .pan .now) (s .pre .0) (s .args .out .now) _ _ _ _ _
+    (shown .before .front-shown .ensures) (shown .back-shown .ensures) (first .before .before .before .before .before .write-stars .ensures)
+    (first .put-at .ensures) (second .put-at2 .ensures)
 
 pub write-masked-spec : {M : Type 1} → statement M
 write-masked-spec =
     tie.close
     (tie.spec
-    Inv-loop
-    μ-loop
-    loop-holds
-    masked-at-requires
-    slice-write-out
-    add-i
-    loop-less
-    loop-again
+    front-shown-requires
+    back-shown-requires
+    sub-back
+    write-stars-requires
+    slice-aggregate-put-at
+    put-at-requires
+    sub-put-at
+    part-put-at-start
+    part-put-at-end
+    put-at-requires-2
     same-length
     returns)

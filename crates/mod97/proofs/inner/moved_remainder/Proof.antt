@@ -4,43 +4,43 @@ use Rattle.mod97.proofs.Laws.{moved-read}
 use Rattle.mod97.proofs.inner.moved_remainder.Statement.{statement}
 use Rattle.mod97.proofs.inner.moved_remainder.Tie as tie
 
-sub-remainder : tie.Need-sub-remainder
-sub-remainder c = search needs
+sub-read-after : tie.Need-sub-read-after
+sub-read-after c = search needs
 
-part-remainder-start : tie.Need-part-remainder-start
-part-remainder-start c = search needs
+part-read-after-start : tie.Need-part-read-after-start
+part-read-after-start c = search needs
 
-part-remainder-end : tie.Need-part-remainder-end
-part-remainder-end c = search needs
+part-read-after-end : tie.Need-part-read-after-end
+part-read-after-end c = search needs
 
-remainder-requires : tie.Need-remainder-requires
-remainder-requires c κs = search needs
+read-after-requires : tie.Need-read-after-requires
+read-after-requires c κs = search needs
 
-sub-remainder-2 : tie.Need-sub-remainder-2
-sub-remainder-2 c = search needs
+sub-read-after-2 : tie.Need-sub-read-after-2
+sub-read-after-2 c = search needs
 
-part-remainder-start-2 : tie.Need-part-remainder-start-2
-part-remainder-start-2 c = search needs
+part-read-after-start-2 : tie.Need-part-read-after-start-2
+part-read-after-start-2 c = search needs
 
-part-remainder-end-2 : tie.Need-part-remainder-end-2
-part-remainder-end-2 c = search needs
+part-read-after-end-2 : tie.Need-part-read-after-end-2
+part-read-after-end-2 c = search needs
 
-remainder-requires-2 : tie.Need-remainder-requires-2
-remainder-requires-2 c κs = search needs
+read-after-requires-2 : tie.Need-read-after-requires-2
+read-after-requires-2 c κs = search needs
 
 returns : tie.Need-returns
-returns c = c .remainder2 .ensures .0 ∙ moved-read (c .before .before .before .before .before .args .s .now) _ (c .before .before .remainder .ensures .0)
+returns c = c .read-after2 .ensures ∙ moved-read (c .before .before .before .before .before .args .s .now) _ (c .before .before .read-after .ensures)
 
 pub moved-remainder-spec : {M : Type 1} → statement M
 moved-remainder-spec =
     tie.close
     (tie.spec
-    sub-remainder
-    part-remainder-start
-    part-remainder-end
-    remainder-requires
-    sub-remainder-2
-    part-remainder-start-2
-    part-remainder-end-2
-    remainder-requires-2
+    sub-read-after
+    part-read-after-start
+    part-read-after-end
+    read-after-requires
+    sub-read-after-2
+    part-read-after-start-2
+    part-read-after-end-2
+    read-after-requires-2
     returns)
