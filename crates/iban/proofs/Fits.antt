@@ -1,7 +1,7 @@
 -- A body by the code's three runs, and place by place. Assumes nothing.
 use Prim.Native.Nat.{ℕ, zero, suc, _+_, _≤_}
 use mathlib.Core.Path.{_≡_, refl, sym, ap, _∙_}
-use mathlib.Core.Bool.{Bool, true, false, _&&_, and-false, and-assoc}
+use mathlib.Core.Bool.{Bool, false, _&&_, and-true, and-false, and-assoc}
 use mathlib.Core.List.{List, [], _∷_, _++_}
 use native.Mathlib.Omega.{arith}
 use native.Mathlib.Nat.{le-of-suc-le-suc, not-suc-le-zero}
@@ -52,11 +52,7 @@ module _ (k l m : Kind) (p q d : ℕ) (s : List ℕ) where
       (fits-run l q (replicate d m ++ []) (drop p s) (omega arith)
       ∙ ap (λ (t : Bool). every (kindFits l) (take q (drop p s)) && t)
       (fits-run m d [] (drop q (drop p s)) (omega arith)
-      ∙ rw (take-all d (drop q (drop p s)) w, drop-of-length-le (drop q (drop p s)) {i = d} w, drop-drop q p s) (last (every (kindFits m) (drop (p + q) s)))))
-    where
-      last : (t : Bool) → (t && true) ≡ t
-      last true = refl
-      last false = refl
+      ∙ rw (take-all d (drop q (drop p s)) w, drop-of-length-le (drop q (drop p s)) {i = d} w, drop-drop q p s) (and-true (every (kindFits m) (drop (p + q) s)))))
 
   three : (eqb (length s) (p + q + d) && (every (kindFits k) (take p s) && (every (kindFits l) (take q (drop p s)) && every (kindFits m) (drop (p + q) s)))) ≡ fits kinds s
   three = go (ℕ-discrete (length s) (p + q + d))

@@ -4,12 +4,10 @@ use reasons::Reason;
 use reasons::Tested;
 ghost use mathlib.Core.Path.{_≡_};
 ghost use mathlib.Core.List.{map};
-ghost use Prim.Native.Nat.{_<_};
-ghost use lib.ListN.{getD};
 ghost use Rattle.reasons.specs.Reasons.{said};
 ghost use Rattle.text.specs.Bytes.{every};
 ghost use Rattle.mod97.specs.Pair.{saidMade};
-ghost use Rattle.iban.specs.Countries.{table, noRow, kindFits, listedIn, rowIn};
+ghost use Rattle.iban.specs.Countries.{table, kindFits, listedIn, rowIn};
 ghost use Rattle.iban.specs.Stored.{kindOf, stored, fitsStored};
 ghost use Rattle.iban.specs.Iban.{allAllowed, ibanRule, makeRule};
 

@@ -6,3 +6,4 @@ pub mod Places
 pub mod OnePair
 pub mod Pairs
 pub mod Refusals
+pub mod Standard

@@ -1,5 +1,5 @@
 use Prim.Native.Nat.{ℕ}
-use mathlib.Core.Path.{_≡_, sym, ap, _∙_}
+use mathlib.Core.Path.{_≡_, refl, sym, ap, _∙_}
 use mathlib.Core.Bool.{true}
 use mathlib.Core.List.{List}
 use native.Mathlib.Omega.{arith}
@@ -9,7 +9,9 @@ use borrow.Author.Tests.{not-true, not-false}
 use Rattle.text.specs.Bytes.{within}
 use Rattle.text.proofs.Tests.{under, over, inside}
 use Rattle.reasons.specs.Reasons.{gives}
-use Rattle.creditor.proofs.Rule.{make-count, make-byte, make-pair}
+use Rattle.mod97.proofs.Standard.{count-refused, byte-refused, goes-on}
+use Rattle.creditor.specs.Creditor.{makeRule}
+use Rattle.creditor.proofs.Rule.{makeAnswers}
 use Rattle.creditor.proofs.make.Statement.{statement}
 use Rattle.creditor.proofs.make.Tie as tie
 
@@ -20,18 +22,21 @@ count-holds : (c : tie.Else2) → within 1 21 (length (body-at c)) ≡ true
 count-holds c = inside 1 21 (length (body-at c)) (omega arith) (omega arith)
 
 returns : tie.Need-returns
-returns c = let s = c .before .before .args .body .now in make-count s (under 1 21 (length s) (omega arith))
+unfolding makeRule
+returns c = let s = c .before .before .args .body .now in count-refused (makeAnswers s) _ (under 1 21 (length s) (omega arith))
 
 returns-2 : tie.Need-returns-2
-returns-2 c = let s = c .before .before .before .args .body .now in make-count s (over 1 21 (length s) (omega arith))
+unfolding makeRule
+returns-2 c = let s = c .before .before .before .args .body .now in count-refused (makeAnswers s) _ (over 1 21 (length s) (omega arith))
 
 all-plain-requires : tie.Need-all-plain-requires
 all-plain-requires c κs = search needs
 
 returns-3 : tie.Need-returns-3
+unfolding makeRule
 returns-3 c =
     let o = c .before .before in
-    make-byte (body-at o) (count-holds o) (sym (c .before .all-plain .ensures) ∙ not-true _ (c .if3 .taken))
+    byte-refused (makeAnswers (body-at o)) _ (count-holds o) (sym (c .before .all-plain .ensures) ∙ not-true _ (c .if3 .taken))
 
 slice-aggregate-pair-for : tie.Need-slice-aggregate-pair-for
 slice-aggregate-pair-for c = search needs
@@ -40,10 +45,13 @@ pair-for-requires : tie.Need-pair-for-requires
 pair-for-requires c κs = search needs
 
 returns-4 : tie.Need-returns-4
+unfolding makeRule
 returns-4 c =
     let b = c .before .before in
     let o = b .before .before in
-    ap gives (c .pair-for .ensures) ∙ make-pair (body-at o) (count-holds o) (sym (b .before .all-plain .ensures) ∙ not-false _ (b .if3 .left))
+    let bytes = sym (b .before .all-plain .ensures) ∙ not-false _ (b .if3 .left) in
+    ap gives (c .pair-for .ensures)
+    ∙ sym (goes-on (makeAnswers (body-at o)) _ record { right-count = count-holds o; right-bytes = bytes; right-country = refl; right-layout = refl })
 
 pub make-spec : {M : Type 1} → statement M
 make-spec =

@@ -1,7 +1,7 @@
 use Prim.Native.Nat.{ℕ}
 use mathlib.Core.Path.{_≡_, sym, ap, _∙_}
 use mathlib.Core.List.{List}
-use mathlib.Core.Bool.{true}
+use mathlib.Core.Bool.{true, _&&_}
 use native.Mathlib.Omega.{arith}
 use lib.ListN.{length, getD}
 use lib.Dec.{eqb}
@@ -10,9 +10,10 @@ use borrow.Author.Tests.{eq-eqb, ne-eqb, not-true, not-false}
 use Rattle.text.specs.Bytes.{within}
 use Rattle.text.proofs.Tests.{under, over, inside}
 use Rattle.reasons.specs.Reasons.{gives}
+use Rattle.mod97.proofs.Standard.{Answers, count-refused, byte-refused, country-refused, layout-refused, goes-on}
 use Rattle.iban.proofs.Fits.{row-fits}
-use Rattle.iban.specs.Iban.{allAllowed}
-use Rattle.iban.proofs.Rule.{make-country-count, make-body-count, make-country-byte, make-body-byte, make-country, make-layout, make-pair}
+use Rattle.iban.specs.Iban.{allAllowed, makeRule}
+use Rattle.iban.proofs.Rule.{makeAnswers}
 use Rattle.iban.specs.Countries.{listed, runsOf, kindsOf, fits}
 use Rattle.iban.proofs.make.Statement.{statement}
 use Rattle.iban.proofs.make.Tie as tie
@@ -28,8 +29,8 @@ body-at c = c .before .before .before .args .body .now
 two-holds : (c : tie.Else1) → eqb (length (letters c)) 2 ≡ true
 two-holds c = eq-eqb (length (letters c)) _ (c .if1 .left)
 
-count-holds : (c : tie.Else3) → within 1 30 (length (body-at (c .before .before))) ≡ true
-count-holds c = inside 1 30 (length (body-at (c .before .before))) (omega arith) (omega arith)
+count-holds : (c : tie.Else3) → (eqb (length (letters (c .before .before))) 2 && within 1 30 (length (body-at (c .before .before)))) ≡ true
+count-holds c = rw (two-holds (c .before .before)) (inside 1 30 (length (body-at (c .before .before))) (omega arith) (omega arith))
 
 abbrev at-two : tie.Else4 → tie.Else1
 at-two c = c .before .before .before .before
@@ -37,8 +38,8 @@ at-two c = c .before .before .before .before
 letters-hold : (c : tie.Else4) → allAllowed (letters (at-two c)) ≡ true
 letters-hold c = sym (c .before .all-allowed .ensures) ∙ not-false _ (c .if4 .left)
 
-bytes-hold : (c : tie.Else5) → allAllowed (body-at (at-two (c .before .before))) ≡ true
-bytes-hold c = sym (c .before .all-allowed2 .ensures) ∙ not-false _ (c .if5 .left)
+bytes-hold : (c : tie.Else5) → (allAllowed (letters (at-two (c .before .before))) && allAllowed (body-at (at-two (c .before .before)))) ≡ true
+bytes-hold c = rw (letters-hold (c .before .before)) (sym (c .before .all-allowed2 .ensures) ∙ not-false _ (c .if5 .left))
 
 abbrev at-bytes : tie.After-find → tie.Else5
 at-bytes c = c .before .before .before
@@ -60,38 +61,44 @@ row-holds c =
     let t = letters (start-of f) in
     c .fits-row .ensures ∙ row-fits (getD t 0 0) (getD t 1 0) (f .find .result .row) (body-at (start-of f)) (f .find .ensures .1)
 
+abbrev answers-at : tie.Else1 → Answers
+answers-at c = makeAnswers (letters c) (body-at c)
+
 returns : tie.Need-returns
+unfolding makeRule
 returns c =
     let g = c .before .before .before .args in
-    make-country-count (g .country .now) (g .body .now) (ne-eqb (length (g .country .now)) _ (c .if1 .taken))
+    count-refused (makeAnswers (g .country .now) (g .body .now)) _ (rw (ne-eqb (length (g .country .now)) _ (c .if1 .taken)))
 
 returns-2 : tie.Need-returns-2
+unfolding makeRule
 returns-2 c =
     let o = c .before in
-    make-body-count (letters o) (body-at o) (two-holds o) (under 1 30 (length (body-at o)) (omega arith))
+    count-refused (answers-at o) _ (rw (two-holds o) (under 1 30 (length (body-at o)) (omega arith)))
 
 returns-3 : tie.Need-returns-3
+unfolding makeRule
 returns-3 c =
     let o = c .before .before in
-    make-body-count (letters o) (body-at o) (two-holds o) (over 1 30 (length (body-at o)) (omega arith))
+    count-refused (answers-at o) _ (rw (two-holds o) (over 1 30 (length (body-at o)) (omega arith)))
 
 all-allowed-requires : tie.Need-all-allowed-requires
 all-allowed-requires c κs = search needs
 
 returns-4 : tie.Need-returns-4
+unfolding makeRule
 returns-4 c =
     let k = c .before .before in
-    let o = k .before .before in
-    make-country-byte (letters o) (body-at o) (two-holds o) (count-holds k) (sym (c .before .all-allowed .ensures) ∙ not-true _ (c .if4 .taken))
+    byte-refused (answers-at (k .before .before)) _ (count-holds k) (rw (sym (c .before .all-allowed .ensures) ∙ not-true _ (c .if4 .taken)))
 
 all-allowed-requires-2 : tie.Need-all-allowed-requires-2
 all-allowed-requires-2 c κs = search needs
 
 returns-5 : tie.Need-returns-5
+unfolding makeRule
 returns-5 c =
     let a = c .before .before in
-    let o = at-two a in
-    make-body-byte (letters o) (body-at o) (two-holds o) (count-holds (a .before .before)) (letters-hold a) (sym (c .before .all-allowed2 .ensures) ∙ not-true _ (c .if5 .taken))
+    byte-refused (answers-at (at-two a)) _ (count-holds (a .before .before)) (rw (letters-hold a) (sym (c .before .all-allowed2 .ensures) ∙ not-true _ (c .if5 .taken)))
 
 shared-slice-read-find : tie.Need-shared-slice-read-find
 shared-slice-read-find c = search needs
@@ -103,37 +110,37 @@ find-requires : tie.Need-find-requires
 find-requires c κs = search needs
 
 returns-6 : tie.Need-returns-6
+unfolding makeRule
 returns-6 c =
     let f = c .before in
-    let a = at-letters f in
-    let o = start-of f in
-    make-country (letters o) (body-at o) (two-holds o) (count-holds (a .before .before)) (letters-hold a) (bytes-hold (at-bytes f)) (sym (f .find .ensures .0) ∙ not-true _ (c .if6 .taken))
+    country-refused (answers-at (start-of f)) _ (count-holds (at-letters f .before .before)) (bytes-hold (at-bytes f)) (sym (f .find .ensures .0) ∙ not-true _ (c .if6 .taken))
 
 fits-row-requires : tie.Need-fits-row-requires
 fits-row-requires c κs = search needs
 
 returns-7 : tie.Need-returns-7
+unfolding makeRule
 returns-7 c =
     let k = c .before .before .before in
     let f = k .before in
-    let a = at-letters f in
-    let o = start-of f in
-    make-layout (letters o) (body-at o) (two-holds o) (count-holds (a .before .before)) (letters-hold a) (bytes-hold (at-bytes f)) (country-holds k)
-    (sym (row-holds (c .before)) ∙ not-true _ (c .if7 .taken))
+    layout-refused (answers-at (start-of f)) _ (count-holds (at-letters f .before .before)) (bytes-hold (at-bytes f)) (country-holds k) (sym (row-holds (c .before)) ∙ not-true _ (c .if7 .taken))
 
 pair-for-requires : tie.Need-pair-for-requires
 pair-for-requires c κs = search needs
 
 returns-8 : tie.Need-returns-8
+unfolding makeRule
 returns-8 c =
     let l = c .before in
     let k = l .before .before .before in
     let f = k .before in
-    let a = at-letters f in
-    let o = start-of f in
     ap gives (c .pair-for .ensures)
-    ∙ make-pair (letters o) (body-at o) (two-holds o) (count-holds (a .before .before)) (letters-hold a) (bytes-hold (at-bytes f)) (country-holds k)
-    (sym (row-holds (l .before)) ∙ not-false _ (l .if7 .left))
+    ∙ sym (goes-on (answers-at (start-of f)) _ record {
+      right-count = count-holds (at-letters f .before .before);
+      right-bytes = bytes-hold (at-bytes f);
+      right-country = country-holds k;
+      right-layout = sym (row-holds (l .before)) ∙ not-false _ (l .if7 .left);
+    })
 
 pub make-spec : {M : Type 1} → statement M
 make-spec =

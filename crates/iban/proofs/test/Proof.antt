@@ -10,9 +10,10 @@ use Rattle.text.proofs.Tests.{under, over, inside}
 use Rattle.text.specs.Bytes.{within}
 use Rattle.reasons.specs.Reasons.{refuses}
 use Rattle.mod97.specs.Pair.{pairDigits}
+use Rattle.mod97.proofs.Standard.{AllYes, answers, count-refused, byte-refused, country-refused, layout-refused, pair-wrong, accepts}
 use Rattle.iban.specs.Iban.{allAllowed, laidOut, ibanRule}
 use Rattle.iban.specs.Countries.{listed}
-use Rattle.iban.proofs.Rule.{row-says, no-pair-digits, laid-out-is, test-count, test-byte, test-country, test-layout, test-wrong, test-right}
+use Rattle.iban.proofs.Rule.{standard, row-says, no-pair-digits, laid-out-is}
 use Rattle.iban.proofs.test.Statement.{statement}
 use Rattle.iban.proofs.test.Tie as tie
 
@@ -38,8 +39,11 @@ country-holds c = sym (c .before .find .ensures .0) ∙ not-false _ (c .if4 .lef
 digits-hold : (c : tie.Else5) → pairDigits (found-in (c .before .before .before)) ≡ true
 digits-hold c = sym (c .before .pair-digits .ensures) ∙ not-false _ (c .if5 .left)
 
-layout-refused : (c : tie.Else4) → laidOut (found-in (c .before)) ≡ false → refuses 6 ≡ ibanRule (found-in (c .before))
-layout-refused c = let f = c .before in test-layout (found-in f) (count-holds (at-bytes f .before .before)) (bytes-hold (at-bytes f)) (country-holds c)
+misfit : (c : tie.Else4) → laidOut (found-in (c .before)) ≡ false → refuses 6 ≡ ibanRule (found-in (c .before))
+unfolding ibanRule
+misfit c =
+    let f = c .before in
+    layout-refused (answers standard (found-in f)) _ (count-holds (at-bytes f .before .before)) (bytes-hold (at-bytes f)) (country-holds c)
 
 -- what the test of the row says
 abbrev at-country : tie.After-fits-row → tie.Else4
@@ -53,22 +57,32 @@ row-holds c =
     let s = found-in (at-find c) in
     c .fits-row .ensures ∙ row-says s (at-find c .find .result .row) (at-find c .find .ensures .1) ∙ sym (laid-out-is s (digits-hold (c .before .before .before)))
 
-layout-holds : (c : tie.Else6) → laidOut (found-in (at-find (c .before))) ≡ true
-layout-holds c = sym (row-holds (c .before)) ∙ not-false _ (c .if6 .left)
+all-hold : (c : tie.Else6) → AllYes (answers standard (found-in (at-find (c .before))))
+all-hold c =
+    let f = at-find (c .before) in
+    record {
+      right-count = count-holds (at-bytes f .before .before);
+      right-bytes = bytes-hold (at-bytes f);
+      right-country = country-holds (at-country (c .before));
+      right-layout = sym (row-holds (c .before)) ∙ not-false _ (c .if6 .left);
+    }
 
 returns : tie.Need-returns
-returns c = let s = c .before .before .args .text .now in test-count s (under 5 34 (length s) (omega arith))
+unfolding ibanRule
+returns c = let s = c .before .before .args .text .now in count-refused (answers standard s) _ (under 5 34 (length s) (omega arith))
 
 returns-2 : tie.Need-returns-2
-returns-2 c = let s = c .before .before .before .args .text .now in test-count s (over 5 34 (length s) (omega arith))
+unfolding ibanRule
+returns-2 c = let s = c .before .before .before .args .text .now in count-refused (answers standard s) _ (over 5 34 (length s) (omega arith))
 
 all-allowed-requires : tie.Need-all-allowed-requires
 all-allowed-requires c κs = search needs
 
 returns-3 : tie.Need-returns-3
+unfolding ibanRule
 returns-3 c =
     let o = c .before .before in
-    test-byte (text-at o) (count-holds o) (sym (c .before .all-allowed .ensures) ∙ not-true _ (c .if3 .taken))
+    byte-refused (answers standard (text-at o)) _ (count-holds o) (sym (c .before .all-allowed .ensures) ∙ not-true _ (c .if3 .taken))
 
 shared-slice-read-find : tie.Need-shared-slice-read-find
 shared-slice-read-find c = search needs
@@ -80,15 +94,16 @@ find-requires : tie.Need-find-requires
 find-requires c κs = search needs
 
 returns-4 : tie.Need-returns-4
+unfolding ibanRule
 returns-4 c =
     let f = c .before in
-    test-country (found-in f) (count-holds (at-bytes f .before .before)) (bytes-hold (at-bytes f)) (sym (f .find .ensures .0) ∙ not-true _ (c .if4 .taken))
+    country-refused (answers standard (found-in f)) _ (count-holds (at-bytes f .before .before)) (bytes-hold (at-bytes f)) (sym (f .find .ensures .0) ∙ not-true _ (c .if4 .taken))
 
 pair-digits-requires : tie.Need-pair-digits-requires
 pair-digits-requires c κs = search needs
 
 returns-5 : tie.Need-returns-5
-returns-5 c = layout-refused (c .before .before) (no-pair-digits _ (sym (c .before .pair-digits .ensures) ∙ not-true _ (c .if5 .taken)))
+returns-5 c = misfit (c .before .before) (no-pair-digits _ (sym (c .before .pair-digits .ensures) ∙ not-true _ (c .if5 .taken)))
 
 sub-fits-row : tie.Need-sub-fits-row
 sub-fits-row c = search needs
@@ -103,24 +118,18 @@ fits-row-requires : tie.Need-fits-row-requires
 fits-row-requires c κs = search needs
 
 returns-6 : tie.Need-returns-6
-returns-6 c = layout-refused (at-country (c .before)) (sym (row-holds (c .before)) ∙ not-true _ (c .if6 .taken))
+returns-6 c = misfit (at-country (c .before)) (sym (row-holds (c .before)) ∙ not-true _ (c .if6 .taken))
 
 checks-out-requires : tie.Need-checks-out-requires
 checks-out-requires c κs = search needs
 
 returns-7 : tie.Need-returns-7
-returns-7 c =
-    let l = c .before .before in
-    let f = at-find (l .before) in
-    test-wrong (found-in f) (count-holds (at-bytes f .before .before)) (bytes-hold (at-bytes f)) (country-holds (at-country (l .before))) (layout-holds l)
-    (sym (c .before .checks-out .ensures) ∙ not-true _ (c .if7 .taken))
+unfolding ibanRule
+returns-7 c = pair-wrong standard _ (all-hold (c .before .before)) (sym (c .before .checks-out .ensures) ∙ not-true _ (c .if7 .taken))
 
 returns-8 : tie.Need-returns-8
-returns-8 c =
-    let l = c .before .before in
-    let f = at-find (l .before) in
-    test-right (found-in f) (count-holds (at-bytes f .before .before)) (bytes-hold (at-bytes f)) (country-holds (at-country (l .before))) (layout-holds l)
-    (sym (c .before .checks-out .ensures) ∙ not-false _ (c .if7 .left))
+unfolding ibanRule
+returns-8 c = accepts standard _ (all-hold (c .before .before)) (sym (c .before .checks-out .ensures) ∙ not-false _ (c .if7 .left))
 
 pub test-spec : {M : Type 1} → statement M
 test-spec =
