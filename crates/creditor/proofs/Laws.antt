@@ -40,10 +40,12 @@ make-one s r q e f = saidMade-one r q (e ∙ sym f)
 
 -- ---- accepted texts
 
+-- all that is asked is answered with yes, and the pair passes
 accepted : (s : List ℕ) → creditorRule s ≡ gives tt → AllYes (answers standard s) × (checks s ≡ true)
 unfolding creditorRule
 accepted = standards.accepted standard
 
+-- so the laws on refusals hold
 sound : (s : List ℕ) → creditorRule s ≡ gives tt → Sound s
 unfolding creditorRule
 sound = standards.sound standard (omega arith) (omega arith)
@@ -86,6 +88,7 @@ unfolding isPlain isDigit isCapital every
 plain-rf = refl
 
 module _ (body : List ℕ) (p : ℕ) (e : makeRule body ≡ gives p) where
+  -- what a body has for which a pair is made
   made : AllYes (makeAnswers body) × (p ≡ pairFor (bytesOf "RF") body)
   unfolding makeRule
   made = making (makeAnswers body) (pairFor (bytesOf "RF") body) p e

@@ -43,10 +43,12 @@ make-one t s r q e f = saidMade-one r q (e ∙ sym f)
 
 -- ---- accepted texts
 
+-- all that is asked is answered with yes, and the pair passes
 accepted : (s : List ℕ) → ibanRule s ≡ gives tt → AllYes (answers standard s) × (checks s ≡ true)
 unfolding ibanRule
 accepted = standards.accepted standard
 
+-- so the laws on refusals hold
 sound : (s : List ℕ) → ibanRule s ≡ gives tt → Sound s
 unfolding ibanRule
 sound = standards.sound standard (omega arith) (omega arith)
@@ -109,6 +111,7 @@ digit-to-capital-unfound = (bytesOf "FR1420041010050500013M02606", 15, code "Q",
 
 -- ---- the pair
 
+-- what a country and a body have for which a pair is made
 made : (t s : List ℕ) (p : ℕ) → makeRule t s ≡ gives p → AllYes (makeAnswers t s) × (p ≡ pairFor t s)
 unfolding makeRule
 made t s p = making (makeAnswers t s) (pairFor t s) p

@@ -91,9 +91,11 @@ module _ (d : Standard) where
   pub accepts : (s : List ℕ) → AllYes (answers d s) → checks s ≡ true → gives tt ≡ rule d s
   accepts s y p = sym (goes-on (answers d s) (demand (checks s) 4 (gives tt)) y ∙ passes-on (checks s) 4 (gives tt) p)
 
+  -- where nothing but the pair is wrong the refusal is 4
   pub pair-wrong : (s : List ℕ) → AllYes (answers d s) → checks s ≡ false → refuses 4 ≡ rule d s
   pair-wrong s y n = sym (goes-on (answers d s) (demand (checks s) 4 (gives tt)) y ∙ stops (checks s) 4 (gives tt) n)
 
+  -- of a standard whose texts are neither too short nor too long, the laws on refusals hold
   pub sound : 4 ≤ d .low → d .high < 48 → (s : List ℕ) → rule d s ≡ gives tt → Sound s
   sound long short s p =
       let (y, k) = accepted s p in
@@ -132,5 +134,6 @@ module _ (d : Standard) where
 
 -- ---- making
 
+-- a pair is made only where all that is asked is answered with yes, and it is the one that the rule names
 pub making : (a : Answers) (v p : ℕ) → asked a (gives v) ≡ gives p → AllYes a × (p ≡ v)
 making a v p h = let (y, e) = all-yes a (gives v) p h in (y, cc e)

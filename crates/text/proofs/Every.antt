@@ -2,7 +2,7 @@
 -- Assumes nothing.
 use Prim.Native.Nat.{ℕ, zero, suc, _+_, _<_, _≤_}
 use mathlib.Core.Path.{_≡_, refl, sym, ap, _∙_}
-use mathlib.Core.Bool.{Bool, true, false, _&&_}
+use mathlib.Core.Bool.{Bool, true, false, _&&_, and-true, and-assoc}
 use mathlib.Core.List.{List, [], _∷_, _++_}
 use native.Mathlib.Numerals.{add-one}
 use native.Mathlib.Nat.{le-of-suc-le-suc, not-suc-le-zero}
@@ -43,6 +43,16 @@ module _ (f : ℕ → Bool) where
 
   pub turn-no : (s : List ℕ) (i : ℕ) (t : Bool) → i < length s → every f (drop i s) ≡ t → f (getD s i 0) ≡ false → false ≡ t
   turn-no s i t h e n = sym (ap (λ (b : Bool). b && every f (drop (suc i) s)) n) ∙ sym (turn s i h) ∙ e
+
+  -- a turn of a loop that has no way out, t being what the bytes before said; and its end
+  pub turn-on : (s : List ℕ) (i : ℕ) (t all : Bool) → i < length s → (t && every f (drop i s)) ≡ all → ((t && f (getD s i 0)) && every f (drop (i + 1) s)) ≡ all
+  turn-on s i t all h e =
+      and-assoc t (f (getD s i 0)) (every f (drop (i + 1) s))
+      ∙ ap (λ (r : Bool). t && r) (ap (λ (n : ℕ). f (getD s i 0) && every f (drop n s)) (add-one i) ∙ sym (turn s i h))
+      ∙ e
+
+  pub end-on : (s : List ℕ) (i : ℕ) (t all : Bool) → length s ≤ i → (t && every f (drop i s)) ≡ all → t ≡ all
+  end-on s i t all h e = sym (ap (λ (r : Bool). t && r) (end s i h) ∙ and-true t) ∙ e
 
   -- a text put together from two, and one with a byte in front
   pub every-both : (p q : List ℕ) → every f p ≡ true → every f q ≡ true → every f (p ++ q) ≡ true

@@ -30,17 +30,17 @@ pub fn is_capital(b: u8) -> bool
     true
 }
 
+// Looks at every byte, with no way out in between: the compiler then takes sixteen at a time.
 pub fn all_digits(s: &[u8]) -> bool
     ensures { λ r. ⌜ r ≡ allDigits (now (s .entry)) ⌝ }
 {
+    let mut digits = true;
     let mut i = 0;
     while i < s.len() {
-        if !is_digit(s[i]) {
-            return false;
-        }
+        digits = digits & is_digit(s[i]);
         i += 1;
     }
-    true
+    digits
 }
 
 // What the digit b stands for.

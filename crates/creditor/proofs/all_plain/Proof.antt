@@ -1,12 +1,11 @@
 -- `all_plain`: what was seen of the text is plain, and so is what is left, exactly where the whole is. Assumes nothing.
-use Prim.Native.Nat.{_+_, _≤_, _-_}
-use mathlib.Core.Path.{_≡_, refl, sym, ap, _∙_}
-use mathlib.Core.Bool.{Bool, _&&_, and-true, and-assoc}
-use native.Mathlib.Numerals.{add-one}
+use Prim.Native.Nat.{_≤_, _-_}
+use mathlib.Core.Path.{_≡_, refl}
+use mathlib.Core.Bool.{_&&_}
 use native.Mathlib.Omega.{arith}
 use lib.ListN.{length, drop}
 use borrow.Author.Needs.{needs}
-use Rattle.text.proofs.Every.{end, turn}
+use Rattle.text.proofs.Every.{end-on, turn-on}
 use Rattle.creditor.specs.Creditor.{isPlain, allPlain}
 use Rattle.creditor.proofs.all_plain.Statement.{statement}
 use Rattle.creditor.proofs.all_plain.Tie as tie
@@ -36,17 +35,14 @@ loop-again : tie.Need-loop-again Inv-loop μ-loop
 loop-again c =
     let at-loop = c .before .before .before in
     let l = at-loop .loop in
-    let s = at-loop .before .before .args .s .now in (
-      omega arith,
-      and-assoc (l .plain) (c .is-plain .result) (allPlain (drop (l .i + 1) s))
-          ∙ ap (λ (t : Bool). l .plain && t) (rw (c .is-plain .ensures, add-one) (sym (turn isPlain s (l .i) (omega arith))))
-          ∙ l .inv .1,
-    )
+    let s = at-loop .before .before .args .s .now in
+    (omega arith, rw (c .is-plain .ensures) (turn-on isPlain s (l .i) (l .plain) (allPlain s) (omega arith) (l .inv .1)))
 
 returns : tie.Need-returns Inv-loop μ-loop
 returns c =
     let l = c .before .loop in
-    sym (ap (λ (t : Bool). l .plain && t) (end isPlain (c .before .before .before .args .s .now) (l .i) (omega arith)) ∙ and-true (l .plain)) ∙ l .inv .1
+    let s = c .before .before .before .args .s .now in
+    end-on isPlain s (l .i) (l .plain) (allPlain s) (omega arith) (l .inv .1)
 
 pub all-plain-spec : {M : Type 1} → statement M
 all-plain-spec =
