@@ -14,25 +14,10 @@ import sys
 
 LIMIT = 1.2
 
-# Row: why the library is above LIMIT times plain C there.
-CHARACTERS = (
-    "a character's number is defined for every byte, so that no law carries 'it is a digit or a capital'; "
-    "the code has two comparisons more a character, and both sides take one remainder. Read off the sources, not measured apart."
-)
-BITS = (
-    "the width is a value (five bits here, seven for track 1), and each bit is fetched by itself. "
-    "A table of two characters at a look (request E9) is to take the place of the loop. Read off the sources, not measured apart."
-)
+# Row: why the library is above LIMIT times plain C there; what was measured, and no more.
 NOTES = {
-    "pan_mask": "plain C copies by memcpy and memset; the language has no block copy, so each of 16 bytes is chosen and stored by itself. Read off the sources, not measured apart.",
-    "creditor_test": CHARACTERS,
-    "creditor_make": CHARACTERS,
-    "iban_test.DE": CHARACTERS,
-    "iban_test.GB": CHARACTERS,
-    "iban_test.MT": CHARACTERS,
-    "iban_make.DE": CHARACTERS,
-    "track2_read.forward": BITS,
-    "track2_read.reversed": BITS,
+    "track2_read.forward": "5,019 of the instructions are spent in reading one way, bit by bit (`bits::read_way`), beside 3,958 in plain C.",
+    "track2_read.reversed": "5,370 of the instructions are spent in reading one way, bit by bit (`bits::read_way`), beside 4,424 in plain C.",
 }
 
 LIBRARY, PLAIN, NOTHING = range(3)
