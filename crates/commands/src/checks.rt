@@ -55,7 +55,7 @@ pub fn mask(pan: &[u8]) {
     match pan::mask(pan, &mut out) {
         Tested::Passes => {
             say::words(b"masked ");
-            say::words(script::piece(&out, 0, pan.len()));
+            say::words(text::piece(&out, 0, pan.len()));
             say::line();
         }
         Tested::Refused(why) => say::refused(why),

@@ -7,7 +7,7 @@ fn chars(count: usize, way: &[u8], out: &[u8]) {
     say::words(b"read ");
     say::number(count as u64);
     say::words(way);
-    say::text(script::piece(out, 0, count));
+    say::text(text::piece(out, 0, count));
     say::line();
 }
 

@@ -43,8 +43,8 @@ fn record(name: &[u8], at: usize, bytes: &[u8]) {
 
 pub fn range(site: &[u8], acquirer: &[u8], pan: &[u8]) {
     match ranges::find(site, acquirer, pan) {
-        Found::Site(at) => record(b"site ", at, script::piece(site, at, 16)),
-        Found::Acquirer(at) => record(b"acquirer ", at, script::piece(acquirer, at, 16)),
+        Found::Site(at) => record(b"site ", at, text::piece(site, at, 16)),
+        Found::Acquirer(at) => record(b"acquirer ", at, text::piece(acquirer, at, 16)),
         Found::Refused(why) => say::refused(why),
     }
 }

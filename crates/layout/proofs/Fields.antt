@@ -1,12 +1,12 @@
 -- The fields one by one: what the functions find is what the definitions say. Assumes nothing.
 use Prim.Native.Nat.{ℕ, _+_, _-_, _*_, _≤_, _<_}
-use mathlib.Core.Path.{_≡_, sym, ap, _∙_}
+use mathlib.Core.Path.{_≡_, sym, _∙_}
 use mathlib.Core.Bool.{Bool, true, false}
-use mathlib.Core.List.{List, []}
+use mathlib.Core.List.{List}
 use native.Mathlib.Omega.{arith}
 use native.Mathlib.Numerals.{add-one}
 use lib.ListN.{length, getD, take, drop, drop-of-length-le, length-drop}
-use lib.Seq.{drop-cons, take-all, take-nil}
+use lib.Seq.{drop-cons, take-all}
 use borrow.Author.Tests.{eq-eqb, ne-eqb}
 use Rattle.text.specs.Bytes.{within, isDigit, allDigits}
 use Rattle.text.specs.Numbers.{decimal}
@@ -17,14 +17,6 @@ use Rattle.layout.specs.Layout.{isExpiry, isService, lead, fieldRule, pa
 use Rattle.layout.specs.declared.Field.{Field}
 use Rattle.layout.specs.declared.Field.the-variants.{Absent, At}
 use Rattle.layout.specs.declared.Due.{Due}
-
--- a piece that goes past the end, and one that starts there
-pub piece-none : (s : List ℕ) (at n : ℕ) → length s ≤ at → [] ≡ take n (drop at s)
-piece-none s at n h = sym (ap (take n) (drop-of-length-le s h) ∙ take-nil n)
-
-pub piece-short : (s : List ℕ) (at n : ℕ) → length s - at ≤ n → take (length s - at) (drop at s) ≡ take n (drop at s)
-piece-short s at n h =
-    take-all (length s - at) (drop at s) (rw length-drop (omega arith)) ∙ sym (take-all n (drop at s) (rw length-drop h))
 
 -- digits from the left
 module _ (s : List ℕ) (i : ℕ) where

@@ -1,7 +1,8 @@
 // The characters between track 2's sentinels (ISO/IEC 7813), divided into PAN, expiry, service code and discretionary data.
 ghost use mathlib.Core.Path.{_≡_};
-ghost use mathlib.Core.Bool.{true};
-ghost use Prim.Native.Nat.{_<_, _≤_, _+_};
+ghost use mathlib.Core.Bool.{Bool};
+ghost use mathlib.Core.List.{List};
+ghost use Prim.Native.Nat.{ℕ, _<_, _≤_, _+_};
 ghost use lib.ListN.{length, getD, take, drop};
 ghost use Rattle.text.specs.Parts.{PartOf};
 ghost use Rattle.reasons.specs.Reasons.{numberIn};
@@ -16,20 +17,6 @@ fn byte_at(chars: &[u8], i: usize) -> u8
         return chars[i];
     }
     0
-}
-
-// The n bytes from `at`, fewer where the text ends.
-fn piece(chars: &[u8], at: usize, n: usize) -> &[u8]
-    ensures { λ r. ⌜ now r ≡ take n (drop at (now (chars .entry))) ⌝ }
-{
-    if chars.len() <= at {
-        return &chars[..0];
-    }
-    if chars.len() - at < n {
-        return &chars[at..];
-    }
-    let end = at + n;
-    &chars[at..end]
 }
 
 // How many digits the text starts with.
@@ -83,25 +70,14 @@ pub enum Due {
     Wrong,
 }
 
-fn expiry_at(chars: &[u8], at: usize) -> Due
-    ensures { λ r. ⌜ dueSaid at r ≡ fieldRule isExpiry 4 (now (chars .entry)) at ⌝ }
+// What is due at `at`, where `fits` tells whether the bytes from there pass the field's test.
+fn due_at(chars: &[u8], at: usize, fits: bool) -> Due
+    ensures { λ r. ⌜ ((test : List ℕ → Bool) (n : ℕ) → fits ≡ test (take n (drop at (now (chars .entry)))) → dueSaid at r ≡ fieldRule test n (now (chars .entry)) at) ⌝ }
 {
     if byte_at(chars, at) == 61 {
         return Due::Missing;
     }
-    if is_expiry(piece(chars, at, 4)) {
-        return Due::Present;
-    }
-    Due::Wrong
-}
-
-fn service_at(chars: &[u8], at: usize) -> Due
-    ensures { λ r. ⌜ dueSaid at r ≡ fieldRule isService 3 (now (chars .entry)) at ⌝ }
-{
-    if byte_at(chars, at) == 61 {
-        return Due::Missing;
-    }
-    if is_service(piece(chars, at, 3)) {
+    if fits {
         return Due::Present;
     }
     Due::Wrong
@@ -128,7 +104,7 @@ pub enum Division {
 fn with_rest(chars: &[u8], pan: usize, expiry: Field, service: Field, rest: usize) -> Division
     ensures { λ r. ⌜ said r ≡ restRule (now (chars .entry)) (record { pan = pan; expiry = expiry; service = service; rest = rest }) ⌝ }
 {
-    if text::all_digits(piece(chars, rest, chars.len())) {
+    if text::all_digits(text::piece(chars, rest, chars.len())) {
         return Division::Fields {
             pan,
             expiry,
@@ -144,8 +120,8 @@ fn with_service(chars: &[u8], pan: usize, expiry: Field, at: usize) -> Division
     requires { ⌜ at < 100 ⌝ }
     ensures { λ r. ⌜ said r ≡ serviceRule (now (chars .entry)) pan expiry at ⌝ }
 {
-    let v = service_at(chars, at);
-    match v {
+    let fits = is_service(text::piece(chars, at, 3));
+    match due_at(chars, at, fits) {
         Due::Missing => with_rest(chars, pan, expiry, Field::Absent, at + 1),
         Due::Present => with_rest(chars, pan, expiry, Field::At(at), at + 3),
         Due::Wrong => Division::Refused(Reason::WrongLayout),
@@ -158,8 +134,8 @@ fn with_expiry(chars: &[u8], pan: usize) -> Division
     ensures { λ r. ⌜ said r ≡ expiryRule (now (chars .entry)) pan ⌝ }
 {
     let at = pan + 1;
-    let e = expiry_at(chars, at);
-    match e {
+    let fits = is_expiry(text::piece(chars, at, 4));
+    match due_at(chars, at, fits) {
         Due::Missing => with_service(chars, pan, Field::Absent, at + 1),
         Due::Present => with_service(chars, pan, Field::At(at), at + 4),
         Due::Wrong => Division::Refused(Reason::WrongLayout),

@@ -89,7 +89,7 @@ fn damaged_slot(journal: &[u8], k: usize)
     say::words(b"damaged ");
     say::number(k as u64);
     say::words(b" ");
-    say::hex(script::piece(journal, 32 * k, 32));
+    say::hex(text::piece(journal, 32 * k, 32));
     say::line();
 }
 
@@ -341,7 +341,7 @@ fn show_in(journal: &[u8], serial: u32) {
     match journal::find(journal, serial) {
         Shown::At(at) => {
             say::words(b"record ");
-            say::hex(script::piece(journal, at, 32));
+            say::hex(text::piece(journal, at, 32));
             say::line();
         }
         Shown::Refused(why) => say::refused(why),
@@ -391,7 +391,7 @@ fn entry(slot: &[u8])
     say::number(text::u32_at(slot, 8) as u64);
     say::words(b" ");
     say::words(&slot[16..22]);
-    say::words(script::piece(b"*********", 0, hidden(slot[14])));
+    say::words(text::piece(b"*********", 0, hidden(slot[14])));
     say::words(&slot[22..26]);
     say::line();
 }

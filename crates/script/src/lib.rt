@@ -2,10 +2,10 @@
 ghost use mathlib.Core.Path.{_≡_};
 ghost use mathlib.Core.Bool.{true};
 ghost use mathlib.Core.List.{[], _∷_};
-ghost use Prim.Native.Nat.{_+_, _*_, _-_, _/_, _%_, _≤_, _<_};
+ghost use Prim.Native.Nat.{_+_, _*_, _/_, _%_, _≤_, _<_};
 ghost use lib.Dec.{leb, ltb};
-ghost use lib.ListN.{length, take, drop, getD};
-ghost use Rattle.text.specs.Bytes.{every, allDigits};
+ghost use lib.ListN.{length, drop, getD};
+ghost use Rattle.text.specs.Bytes.{every};
 ghost use Rattle.text.specs.Numbers.{decimal, put};
 ghost use Rattle.reasons.specs.Reasons.{gives, demand};
 ghost use Rattle.script.specs.Words.{firstWord, afterWords, word, spaces, gap, plain, same};
@@ -140,13 +140,6 @@ pub enum Number {
     Isnt(Unclear),
 }
 
-// What the digit b stands for.
-fn digit_of(b: u8) -> u64
-    ensures { λ r. ⌜ (r ≡ b - 48) × (r ≤ 207) ⌝ }
-{
-    if b < 48 { 0 } else { (b - 48) as u64 }
-}
-
 // Whether v with the digit d after it is above most.
 fn passes_over(v: u64, d: u64, most: u64) -> bool
     ensures { λ r. ⌜ r ≡ ltb most (10 * v + d) ⌝ }
@@ -164,7 +157,7 @@ fn digits(w: &[u8], most: u64) -> Number
     let mut v: u64 = 0;
     let mut i = 0;
     while i < w.len() {
-        let d = digit_of(w[i]);
+        let d = text::digit_value(w[i]);
         if passes_over(v, d, most) {
             return Number::Isnt(Unclear::LargeNumber);
         }
@@ -284,20 +277,4 @@ pub fn hex_of(b: u8) -> [u8; 2]
     ensures { λ r. ⌜ r ≡ hexText (b ∷ []) ⌝ }
 {
     [glyph_of(b / 16), glyph_of(b % 16)]
-}
-
-// ---- parts
-
-// The n bytes from `at`, fewer where the text ends.
-pub fn piece(s: &[u8], at: usize, n: usize) -> &[u8]
-    ensures { λ r. ⌜ now r ≡ take n (drop at (now (s .entry))) ⌝ }
-{
-    if s.len() <= at {
-        return &s[..0];
-    }
-    if s.len() - at < n {
-        return &s[at..];
-    }
-    let end = at + n;
-    &s[at..end]
 }

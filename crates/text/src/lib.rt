@@ -2,7 +2,7 @@
 ghost use mathlib.Core.Path.{_≡_};
 ghost use mathlib.Core.Bool.{true};
 ghost use Prim.Native.Nat.{_+_, _-_, _≤_, _<_};
-ghost use lib.ListN.{length, getD};
+ghost use lib.ListN.{length, getD, take, drop};
 ghost use Rattle.text.specs.Bytes.{isDigit, isCapital, allDigits};
 ghost use Rattle.text.specs.Numbers.{u16At, u32At, le16, le32, put, decimal};
 
@@ -44,7 +44,7 @@ pub fn all_digits(s: &[u8]) -> bool
 }
 
 // What the digit b stands for.
-fn digit_value(b: u8) -> u64
+pub fn digit_value(b: u8) -> u64
     ensures { λ r. ⌜ (r ≡ b - 48) × (r ≤ 207) ⌝ }
 {
     if b < 48 { 0 } else { (b - 48) as u64 }
@@ -118,4 +118,18 @@ pub fn put_at(s: &mut [u8], at: usize, vs: &[u8])
         s[at + i] = vs[i];
         i += 1;
     }
+}
+
+// The n bytes from `at`, fewer where the text ends.
+pub fn piece(s: &[u8], at: usize, n: usize) -> &[u8]
+    ensures { λ r. ⌜ now r ≡ take n (drop at (now (s .entry))) ⌝ }
+{
+    if s.len() <= at {
+        return &s[..0];
+    }
+    if s.len() - at < n {
+        return &s[at..];
+    }
+    let end = at + n;
+    &s[at..end]
 }

@@ -1,17 +1,10 @@
 use borrow.Author.Needs.{needs}
-use mathlib.Core.Path.{_≡_, sym, ap, _∙_}
+use mathlib.Core.Path.{sym, ap, _∙_}
 use native.Mathlib.Omega.{arith}
-use Rattle.reasons.specs.Reasons.{gives}
-use Rattle.layout.specs.Layout.{layoutRule, said}
+use Rattle.layout.specs.Layout.{said}
 use Rattle.layout.proofs.Laws.{pan-fits}
 use Rattle.layout.proofs.pan_of.Statement.{statement}
 use Rattle.layout.proofs.pan_of.Tie as tie
-
--- the places that the division gave
-rule-is : (c : tie.After-known-told) →
-    let g = c .before .pan .given .0 in
-    layoutRule (c .before .before .before .before .before .args .chars .now) ≡ gives (record { pan = g .0; expiry = g .1 .0; service = g .1 .1 .0; rest = g .1 .1 .1 .0 })
-rule-is c = sym (c .before .before .before .divide .ensures) ∙ ap said (c .before .pan .given .1)
 
 divide-requires : tie.Need-divide-requires
 divide-requires c κs = search needs
@@ -20,7 +13,7 @@ enum-known-pan : tie.Need-enum-known-pan
 enum-known-pan c = search needs
 
 cut-requires : tie.Need-cut-requires
-cut-requires c κs = omega (arith, pan-fits _ _ (rule-is c))
+cut-requires c κs = omega (arith, pan-fits _ _ (sym (c .before .before .before .divide .ensures) ∙ ap said (c .before .pan .given .1)))
 
 enum-told : tie.Need-enum-told
 enum-told c = search needs
@@ -29,7 +22,7 @@ cut-requires-2 : tie.Need-cut-requires-2
 cut-requires-2 c κs = search needs
 
 returns : tie.Need-returns
-returns c = rw (rule-is (c .before)) (c .cut .ensures)
+returns c = rw (sym (c .before .before .before .before .divide .ensures) ∙ ap said (c .before .before .pan .given .1)) (c .cut .ensures)
 
 returns-2 : tie.Need-returns-2
 returns-2 c = rw (sym (c .before .before .before .divide .ensures) ∙ ap said (c .before .enum-told .given .1)) (c .cut2 .ensures)

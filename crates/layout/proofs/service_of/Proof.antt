@@ -1,16 +1,9 @@
 use borrow.Author.Needs.{needs}
-use mathlib.Core.Path.{_≡_, sym, ap, _∙_}
-use Rattle.reasons.specs.Reasons.{gives}
-use Rattle.layout.specs.Layout.{layoutRule, said}
+use mathlib.Core.Path.{sym, ap, _∙_}
+use Rattle.layout.specs.Layout.{said}
 use Rattle.layout.proofs.Laws.{service-fits}
 use Rattle.layout.proofs.service_of.Statement.{statement}
 use Rattle.layout.proofs.service_of.Tie as tie
-
--- the places that the division gave
-rule-is : (c : tie.After-known-told) →
-    let g = c .before .service .given .0 in
-    layoutRule (c .before .before .before .before .before .args .chars .now) ≡ gives (record { pan = g .0; expiry = g .1 .0; service = g .1 .1 .0; rest = g .1 .1 .1 .0 })
-rule-is c = sym (c .before .before .before .divide .ensures) ∙ ap said (c .before .service .given .1)
 
 divide-requires : tie.Need-divide-requires
 divide-requires c κs = search needs
@@ -19,7 +12,7 @@ enum-known-service : tie.Need-enum-known-service
 enum-known-service c = search needs
 
 field-of-requires : tie.Need-field-of-requires
-field-of-requires c κs = service-fits _ _ (rule-is c)
+field-of-requires c κs = service-fits _ _ (sym (c .before .before .before .divide .ensures) ∙ ap said (c .before .service .given .1))
 
 enum-told : tie.Need-enum-told
 enum-told c = search needs
@@ -28,7 +21,7 @@ cut-requires : tie.Need-cut-requires
 cut-requires c κs = search needs
 
 returns : tie.Need-returns
-returns c = rw (rule-is (c .before)) (c .field-of .ensures)
+returns c = rw (sym (c .before .before .before .before .divide .ensures) ∙ ap said (c .before .before .service .given .1)) (c .field-of .ensures)
 
 returns-2 : tie.Need-returns-2
 returns-2 c = rw (sym (c .before .before .before .divide .ensures) ∙ ap said (c .before .enum-told .given .1)) (c .cut .ensures)

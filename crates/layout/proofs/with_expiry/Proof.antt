@@ -1,17 +1,32 @@
 use borrow.Author.Needs.{needs}
 use Prim.Native.Nat.{_+_}
-use mathlib.Core.Path.{sym, ap, _∙_}
-use Rattle.layout.specs.Layout.{dueSaid}
+use mathlib.Core.Path.{_≡_, sym, ap, _∙_}
+use Rattle.layout.specs.Layout.{isExpiry, fieldRule, dueSaid}
+use Rattle.layout.specs.declared.Due.{Due}
 use Rattle.layout.specs.declared.Due.the-variants.{Missing, Present, Wrong}
 use Rattle.layout.proofs.Fields.{expiry-next}
 use Rattle.layout.proofs.with_expiry.Statement.{statement}
 use Rattle.layout.proofs.with_expiry.Tie as tie
 
+-- what stands at the expiry's place
+due : (c : tie.After-due-at) (v : Due) → c .due-at .result ≡ v →
+    let a = c .before .before .before .before .args in
+    dueSaid (a .pan + 1) v ≡ fieldRule isExpiry 4 (a .chars .now) (a .pan + 1)
+due c v e =
+    let t = c .before in
+    sym (ap (dueSaid _) e) ∙ c .due-at .ensures isExpiry 4 (t .is-expiry .ensures ∙ ap isExpiry (t .before .piece .ensures))
+
 add-at : tie.Need-add-at
 add-at c = search needs
 
-expiry-at-requires : tie.Need-expiry-at-requires
-expiry-at-requires c κs = search needs
+piece-requires : tie.Need-piece-requires
+piece-requires c κs = search needs
+
+is-expiry-requires : tie.Need-is-expiry-requires
+is-expiry-requires c κs = search needs
+
+due-at-requires : tie.Need-due-at-requires
+due-at-requires c κs = search needs
 
 enum-told : tie.Need-enum-told
 enum-told c = search needs
@@ -35,31 +50,22 @@ enum-told-3 : tie.Need-enum-told-3
 enum-told-3 c = search needs
 
 returns : tie.Need-returns
-returns c =
-    let t = c .before in
-    let m = t .before .before in
-    let a = m .before .before .args in
-    c .with-service .ensures ∙ expiry-next (a .chars .now) (a .pan) Missing (sym (ap (dueSaid (a .pan + 1)) (t .enum-told .given .1)) ∙ m .expiry-at .ensures)
+returns c = let t = c .before in c .with-service .ensures ∙ expiry-next _ _ Missing (due (t .before .before) Missing (t .enum-told .given .1))
 
 returns-2 : tie.Need-returns-2
-returns-2 c =
-    let t = c .before in
-    let m = t .before .before in
-    let a = m .before .before .args in
-    c .with-service2 .ensures ∙ expiry-next (a .chars .now) (a .pan) Present (sym (ap (dueSaid (a .pan + 1)) (t .enum-told2 .given .1)) ∙ m .expiry-at .ensures)
+returns-2 c = let t = c .before in c .with-service2 .ensures ∙ expiry-next _ _ Present (due (t .before .before) Present (t .enum-told2 .given .1))
 
 returns-3 : tie.Need-returns-3
-returns-3 c =
-    let m = c .before .before in
-    let a = m .before .before .args in
-    expiry-next (a .chars .now) (a .pan) Wrong (sym (ap (dueSaid (a .pan + 1)) (c .enum-told3 .given .1)) ∙ m .expiry-at .ensures)
+returns-3 c = expiry-next _ _ Wrong (due (c .before .before) Wrong (c .enum-told3 .given .1))
 
 pub with-expiry-spec : {M : Type 1} → statement M
 with-expiry-spec =
     tie.close
     (tie.spec
     add-at
-    expiry-at-requires
+    piece-requires
+    is-expiry-requires
+    due-at-requires
     enum-told
     add-with-service
     with-service-requires

@@ -1,13 +1,28 @@
 use borrow.Author.Needs.{needs}
-use mathlib.Core.Path.{sym, ap, _∙_}
-use Rattle.layout.specs.Layout.{dueSaid}
+use mathlib.Core.Path.{_≡_, sym, ap, _∙_}
+use Rattle.layout.specs.Layout.{isService, fieldRule, dueSaid}
+use Rattle.layout.specs.declared.Due.{Due}
 use Rattle.layout.specs.declared.Due.the-variants.{Missing, Present, Wrong}
 use Rattle.layout.proofs.Fields.{service-next}
 use Rattle.layout.proofs.with_service.Statement.{statement}
 use Rattle.layout.proofs.with_service.Tie as tie
 
-service-at-requires : tie.Need-service-at-requires
-service-at-requires c κs = search needs
+-- what stands at the service code's place
+due : (c : tie.After-due-at) (v : Due) → c .due-at .result ≡ v →
+    let a = c .before .before .before .before .args in
+    dueSaid (a .at) v ≡ fieldRule isService 3 (a .chars .now) (a .at)
+due c v e =
+    let t = c .before in
+    sym (ap (dueSaid _) e) ∙ c .due-at .ensures isService 3 (t .is-service .ensures ∙ ap isService (t .before .piece .ensures))
+
+piece-requires : tie.Need-piece-requires
+piece-requires c κs = search needs
+
+is-service-requires : tie.Need-is-service-requires
+is-service-requires c κs = search needs
+
+due-at-requires : tie.Need-due-at-requires
+due-at-requires c κs = search needs
 
 enum-told : tie.Need-enum-told
 enum-told c = search needs
@@ -31,30 +46,21 @@ enum-told-3 : tie.Need-enum-told-3
 enum-told-3 c = search needs
 
 returns : tie.Need-returns
-returns c =
-    let t = c .before in
-    let m = t .before .before in
-    let a = m .before .before .args in
-    c .with-rest .ensures ∙ service-next (a .chars .now) (a .pan) (a .expiry) (a .at) Missing (sym (ap (dueSaid (a .at)) (t .enum-told .given .1)) ∙ m .service-at .ensures)
+returns c = let t = c .before in c .with-rest .ensures ∙ service-next _ _ _ _ Missing (due (t .before .before) Missing (t .enum-told .given .1))
 
 returns-2 : tie.Need-returns-2
-returns-2 c =
-    let t = c .before in
-    let m = t .before .before in
-    let a = m .before .before .args in
-    c .with-rest2 .ensures ∙ service-next (a .chars .now) (a .pan) (a .expiry) (a .at) Present (sym (ap (dueSaid (a .at)) (t .enum-told2 .given .1)) ∙ m .service-at .ensures)
+returns-2 c = let t = c .before in c .with-rest2 .ensures ∙ service-next _ _ _ _ Present (due (t .before .before) Present (t .enum-told2 .given .1))
 
 returns-3 : tie.Need-returns-3
-returns-3 c =
-    let m = c .before .before in
-    let a = m .before .before .args in
-    service-next (a .chars .now) (a .pan) (a .expiry) (a .at) Wrong (sym (ap (dueSaid (a .at)) (c .enum-told3 .given .1)) ∙ m .service-at .ensures)
+returns-3 c = service-next _ _ _ _ Wrong (due (c .before .before) Wrong (c .enum-told3 .given .1))
 
 pub with-service-spec : {M : Type 1} → statement M
 with-service-spec =
     tie.close
     (tie.spec
-    service-at-requires
+    piece-requires
+    is-service-requires
+    due-at-requires
     enum-told
     add-with-rest
     with-rest-requires

@@ -1,15 +1,16 @@
+-- `piece`: nothing past the end, the rest where it is shorter, else n bytes. Assumes nothing.
 use borrow.Author.Needs.{needs}
 use native.Mathlib.Omega.{arith}
 use native.Mathlib.Nat.{add-sub-cancel-left}
-use Rattle.layout.proofs.Fields.{piece-none, piece-short}
-use Rattle.layout.proofs.piece.Statement.{statement}
-use Rattle.layout.proofs.piece.Tie as tie
+use Rattle.text.proofs.Parts.{piece-none, piece-short}
+use Rattle.text.proofs.piece.Statement.{statement}
+use Rattle.text.proofs.piece.Tie as tie
 
 slice-aggregate-result : tie.Need-slice-aggregate-result
 slice-aggregate-result c = search needs
 
 returns : tie.Need-returns
-returns c = let a = c .before .before .args in piece-none (a .chars .now) (a .at) (a .n) (c .before .if1 .taken)
+returns c = let a = c .before .before .args in piece-none (a .s .now) (a .at) (a .n) (c .before .if1 .taken)
 
 sub-if2 : tie.Need-sub-if2
 sub-if2 c = search needs
@@ -24,7 +25,7 @@ part-result-end : tie.Need-part-result-end
 part-result-end c = search needs
 
 returns-2 : tie.Need-returns-2
-returns-2 c = let a = c .before .before .before .args in piece-short (a .chars .now) (a .at) (a .n) (omega arith)
+returns-2 c = let a = c .before .before .before .args in piece-short (a .s .now) (a .at) (a .n) (omega arith)
 
 add-end : tie.Need-add-end
 add-end c = search needs
