@@ -2,7 +2,6 @@
 use mathlib.Core.Path.{_≡_, refl, sym, ap, _∙_, subst}
 use mathlib.Core.Bool.{Bool, true, false, not, _&&_, and-false}
 use mathlib.Core.List.{List, [], _∷_, _++_}
-use mathlib.Core.Option.{Option, some, none}
 use Prim.Native.Nat.{ℕ, zero, suc, _+_, _-_, _*_, _≤_, _<_}
 use native.Mathlib.Omega.{arith}
 use native.Mathlib.Numerals.{add-one}
@@ -15,14 +14,14 @@ use Rattle.text.specs.Bytes.{isDigit, every, allDigits}
 use Rattle.text.proofs.Every.{every-cons}
 use Rattle.text.proofs.Numbers.{digit-small}
 use Rattle.luhn.specs.Luhn.{even, doubled, weighed, luhnSum}
-use Rattle.luhn.specs.Sum.{twice, sumFrom, onlyIf}
+use Rattle.luhn.specs.Sum.{twice, sumFrom}
 
 -- ---- the loop
 
 -- what holds at the loop's head: of the text from i on, that it has digits alone, its sum, and whether the digit before it is doubled
 pub record At (s : List ℕ) (last : Bool) (total : ℕ) (tw : Bool) (i : ℕ) : Type 0 where
   pub in-text : i ≤ length s
-  pub small : total + 9 * i ≤ 360
+  pub small : total + 9 * i ≤ 900
   pub digits : allDigits (drop i s) ≡ true
   pub flag : tw ≡ twice last (length (drop i s))
   pub sum : total ≡ sumFrom last (drop i s)
@@ -42,7 +41,7 @@ drop-back s i h k =
     let e : suc (i - 1) ≡ i = omega arith in
     drop-cons s (i - 1) 0 lt ∙ ap (λ (n : ℕ). getD s (i - 1) 0 ∷ drop n s) e
 
-pub start : (s : List ℕ) (last : Bool) → length s ≤ 40 → drop (length s) s ≡ [] → At s last 0 last (length s)
+pub start : (s : List ℕ) (last : Bool) → length s ≤ 100 → drop (length s) s ≡ [] → At s last 0 last (length s)
 unfolding every twice sumFrom
 start s last h e = record {
   in-text = omega arith;
@@ -76,21 +75,13 @@ bad (x ∷ s) zero h e = ap (λ (t : Bool). t && allDigits s) e
 bad (x ∷ s) (suc i) h e = ap (λ (t : Bool). isDigit x && t) (bad s i (le-of-suc-le-suc h) e) ∙ and-false (isDigit x)
 
 -- where the loop ends, the whole text is passed
-pub done : (s : List ℕ) (last : Bool) (total : ℕ) (tw : Bool) (i : ℕ) → At s last total tw i → i ≤ 0 → some total ≡ onlyIf (allDigits s) (sumFrom last s)
+pub done : (s : List ℕ) (last : Bool) (total : ℕ) (tw : Bool) (i : ℕ) → At s last total tw i → i ≤ 0 → (allDigits s ≡ true) × (total ≡ sumFrom last s)
 done s last total tw i a h =
     let z : i ≡ 0 = omega arith in
-    let b : At s last total tw 0 = subst (λ (n : ℕ). At s last total tw n) z a in
-    ap {B = Option ℕ} some (b .sum) ∙ sym (ap (λ (t : Bool). onlyIf t (sumFrom last s)) (b .digits))
+    let b = subst (At s last total tw) z a in
+    (b .digits, b .sum)
 
--- ---- what the loop's sum says of the text
-
-pub not-digits : (t : Bool) (n : ℕ) → none ≡ onlyIf t n → t ≡ false
-not-digits true n e = let z : _≡_ {A = ℕ} 0 1 = cc in absurd (omega arith)
-not-digits false n e = refl
-
-pub are-digits : (t : Bool) (m n : ℕ) → some m ≡ onlyIf t n → (t ≡ true) × (m ≡ n)
-are-digits true m n e = (refl, cc)
-are-digits false m n e = let z : _≡_ {A = ℕ} 0 1 = cc in absurd (omega arith)
+-- ---- the two sums
 
 -- the flag follows any reading of the places that turns with each place
 twice-as : (t : Bool) (f : ℕ → Bool) → t ≡ f 0 → ((n : ℕ) → f (suc n) ≡ not (f n)) → (n : ℕ) → twice t n ≡ f n

@@ -1,13 +1,13 @@
 -- What `sum` gives: a text's sum from the right, whose last digit is doubled or not. Assumes nothing.
 use Prim.Native.Nat.{ℕ, zero, suc, _+_, _-_}
-use mathlib.Core.Bool.{Bool, true, false, not}
+use mathlib.Core.Bool.{Bool, not}
 use mathlib.Core.List.{List, [], _∷_}
-use mathlib.Core.Option.{Option, some, none}
 use lib.ListN.{length}
-use Rattle.text.specs.Bytes.{allDigits}
+use Rattle.text.specs.Bytes.{within, allDigits}
+use Rattle.reasons.specs.Reasons.{numberOf, Outcome, gives, refuses, demand}
 use Rattle.luhn.specs.Luhn.{weighed}
 use Rattle.luhn.specs.declared.Summed.{Summed}
-use Rattle.luhn.specs.declared.Summed.the-variants.{Sum, NotDigits}
+use Rattle.luhn.specs.declared.Summed.the-variants.{Sum, Refused}
 
 -- whether a digit with n digits after it is doubled, the last one being as `last` says
 unfoldable pub twice : Bool → ℕ → Bool
@@ -18,13 +18,13 @@ unfoldable pub sumFrom : Bool → List ℕ → ℕ
 sumFrom last [] = 0
 sumFrom last (b ∷ rest) = weighed (twice last (length rest)) (b - 48) + sumFrom last rest
 
-abbrev pub onlyIf : Bool → ℕ → Option ℕ
-onlyIf true n = some n
-onlyIf false n = none
+-- of a text of `least` to `most` digits
+unfoldable pub sumRule : ℕ → ℕ → Bool → List ℕ → Outcome ℕ
+sumRule least most last s =
+    demand (within least most (length s)) 2
+    (demand (allDigits s) 3
+    (gives (sumFrom last s)))
 
-unfoldable pub sumRule : Bool → List ℕ → Option ℕ
-sumRule last s = onlyIf (allDigits s) (sumFrom last s)
-
-abbrev pub saidSum : Summed → Option ℕ
-saidSum (Sum n) = some n
-saidSum NotDigits = none
+abbrev pub saidSum : Summed → Outcome ℕ
+saidSum (Sum n) = gives n
+saidSum (Refused r) = refuses (numberOf r)

@@ -3,7 +3,6 @@ use reasons::Reason;
 use reasons::Tested;
 ghost use mathlib.Core.Path.{_≡_};
 ghost use Prim.Native.Nat.{_≤_};
-ghost use lib.ListN.{length};
 ghost use Rattle.reasons.specs.Reasons.{said};
 ghost use Rattle.luhn.specs.Luhn.{weighed, saidMade, luhnRule, makeRule};
 ghost use Rattle.luhn.specs.Sum.{saidSum, sumRule};
@@ -14,10 +13,10 @@ pub enum Made {
     Refused(Reason),
 }
 
-// The sum of a text of digits, or that a byte of it is none.
+// The sum of a text of digits, or why it has none.
 enum Summed {
     Sum(u32),
-    NotDigits,
+    Refused(Reason),
 }
 
 // What a digit adds to the sum.
@@ -32,11 +31,17 @@ fn weigh(twice: bool, d: u32) -> u32
     }
 }
 
-// The sum of a text of at most 40 digits, from the right. `double` says whether the last digit is doubled.
-fn sum(text: &[u8], double: bool) -> Summed
-    requires { ⌜ length (now text) ≤ 40 ⌝ }
-    ensures { λ r. ⌜ saidSum r ≡ sumRule double (now (text .entry)) ⌝ }
+// The sum of a text of `least` to `most` digits, from the right. `double` says whether the last digit is doubled.
+fn sum(text: &[u8], least: usize, most: usize, double: bool) -> Summed
+    requires { ⌜ most ≤ 100 ⌝ }
+    ensures { λ r. ⌜ saidSum r ≡ sumRule least most double (now (text .entry)) ⌝ }
 {
+    if text.len() < least {
+        return Summed::Refused(Reason::BadCount);
+    }
+    if most < text.len() {
+        return Summed::Refused(Reason::BadCount);
+    }
     let mut total: u32 = 0;
     let mut twice = double;
     let mut i = text.len();
@@ -44,7 +49,7 @@ fn sum(text: &[u8], double: bool) -> Summed
         i -= 1;
         let b = text[i];
         if !text::is_digit(b) {
-            return Summed::NotDigits;
+            return Summed::Refused(Reason::BadByte);
         }
         total += weigh(twice, (b - 48) as u32);
         twice = !twice;
@@ -56,15 +61,8 @@ fn sum(text: &[u8], double: bool) -> Summed
 pub fn test(text: &[u8]) -> Tested
     ensures { λ r. ⌜ said r ≡ luhnRule (now (text .entry)) ⌝ }
 {
-    let n = text.len();
-    if n < 2 {
-        return Tested::Refused(Reason::BadCount);
-    }
-    if 40 < n {
-        return Tested::Refused(Reason::BadCount);
-    }
-    match sum(text, false) {
-        Summed::NotDigits => Tested::Refused(Reason::BadByte),
+    match sum(text, 2, 40, false) {
+        Summed::Refused(r) => Tested::Refused(r),
         Summed::Sum(s) => {
             if s % 10 == 0 {
                 Tested::Passes
@@ -79,15 +77,8 @@ pub fn test(text: &[u8]) -> Tested
 pub fn make(body: &[u8]) -> Made
     ensures { λ r. ⌜ saidMade r ≡ makeRule (now (body .entry)) ⌝ }
 {
-    let n = body.len();
-    if n < 1 {
-        return Made::Refused(Reason::BadCount);
-    }
-    if 39 < n {
-        return Made::Refused(Reason::BadCount);
-    }
-    match sum(body, true) {
-        Summed::NotDigits => Made::Refused(Reason::BadByte),
+    match sum(body, 1, 39, true) {
+        Summed::Refused(r) => Made::Refused(r),
         Summed::Sum(s) => Made::Digit((48 + (10 - s % 10) % 10) as u8),
     }
 }
