@@ -2,7 +2,7 @@
 ghost use mathlib.Core.Path.{_≡_};
 ghost use mathlib.Core.List.{List, []};
 ghost use mathlib.Core.Bool.{false, cond};
-ghost use Prim.Native.Nat.{ℕ, suc, _+_, _-_, _*_, _/_, _%_, _≤_, _<_};
+ghost use Prim.Native.Nat.{ℕ, _+_, _-_, _*_, _/_, _%_, _≤_, _<_};
 ghost use lib.ListN.{length, getD, take, drop};
 ghost use lib.Count;
 ghost use lib.Dec.{eqb};
@@ -82,12 +82,12 @@ fn next_char(s: &[u8], count: usize, reversed: bool, at: usize, size: usize) -> 
     Char::Refused(Reason::WrongParity)
 }
 
-// The place of the first one bit, or the count where there is none.
-fn first_one(s: &[u8], count: usize, reversed: bool) -> usize
-    requires { ⌜ count ≤ 8 * length (now s) ⌝ }
-    ensures { λ r. ⌜ (skip (stream reversed (now (s .entry)) count) ≡ drop r (stream reversed (now (s .entry)) count)) × (r ≤ count) ⌝ }
+// The place of the first one bit from `from` on, or the count where there is none.
+fn first_one(s: &[u8], count: usize, reversed: bool, from: usize) -> usize
+    requires { ⌜ (count ≤ 8 * length (now s)) × (from ≤ count) ⌝ }
+    ensures { λ r. ⌜ (skip (drop from (stream reversed (now (s .entry)) count)) ≡ drop r (stream reversed (now (s .entry)) count)) × (r ≤ count) ⌝ }
 {
-    let mut at = 0;
+    let mut at = from;
     while at < count {
         if bit_at(s, count, reversed, at) == 1 {
             return at;
@@ -102,14 +102,7 @@ fn all_zero(s: &[u8], count: usize, reversed: bool, from: usize) -> bool
     requires { ⌜ (count ≤ 8 * length (now s)) × (from ≤ count) ⌝ }
     ensures { λ r. ⌜ r ≡ allZero (drop from (stream reversed (now (s .entry)) count)) ⌝ }
 {
-    let mut at = from;
-    while at < count {
-        if bit_at(s, count, reversed, at) == 1 {
-            return false;
-        }
-        at += 1;
-    }
-    true
+    first_one(s, count, reversed, from) == count
 }
 
 // After the end sentinel: the LRC character, which is to have the number x, and zeros behind it.
@@ -200,7 +193,7 @@ pub fn read_one(s: &[u8], count: usize, reversed: bool, h: Shape, out: &mut [u8]
 {
     let size = h.size;
     let start = h.start;
-    let at = first_one(s, count, reversed);
+    let at = first_one(s, count, reversed, 0);
     if count - at <= size {
         return Found::Refused(Reason::NoStart);
     }

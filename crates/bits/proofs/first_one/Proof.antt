@@ -9,10 +9,10 @@ use Rattle.bits.proofs.first_one.Statement.{statement}
 use Rattle.bits.proofs.first_one.Tie as tie
 
 abbrev Inv-loop : tie.InvT-loop
-Inv-loop s count reversed at₀ at = (skip (stream reversed s count) ≡ skip (drop at (stream reversed s count))) × (at ≤ count)
+Inv-loop s count reversed from at₀ at = (skip (drop from (stream reversed s count)) ≡ skip (drop at (stream reversed s count))) × (at ≤ count)
 
 abbrev μ-loop : tie.MeasureT-loop
-μ-loop s count reversed at₀ at = count - at
+μ-loop s count reversed from at₀ at = count - at
 
 loop-holds : tie.Need-loop-holds Inv-loop μ-loop
 loop-holds c = (refl, omega arith)
