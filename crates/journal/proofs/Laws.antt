@@ -5,19 +5,15 @@ use mathlib.Core.Bool.{Bool, true, false, cond}
 use mathlib.Core.List.{List, [], _∷_}
 use native.Mathlib.Omega.{arith}
 use denote.Ref.{RefT}
-use lib.ListN.{getD, take, drop, replicate}
+use lib.ListN.{getD, take, drop}
 use lib.Seq.{getD-take, getD-drop}
-use Rattle.text.specs.Bytes.{bytesOf, every, isDigit}
-use Rattle.text.specs.Numbers.{u32At, le16, le32, put}
+use Rattle.text.specs.Numbers.{u32At}
 use Rattle.text.specs.Parts.{PartOf}
 use Rattle.text.proofs.Parts.{Same, part-one}
-use Rattle.reasons.specs.Reasons.{Outcome, gives, after, numberOf}
+use Rattle.reasons.specs.Reasons.{Outcome, numberOf}
 use Rattle.reasons.proofs.Laws.{gives-refuses, refuses-one}
-use Rattle.luhn.specs.Luhn.{even, weighed, luhnSum, passes}
-use Rattle.pan.specs.Pan.{frontShown, backShown}
-use Rattle.slots.specs.Record.{isHeld, heldState, record32}
+use Rattle.slots.specs.Record.{isHeld}
 use Rattle.slots.specs.Journal.{slotsOf, place, stateOf, Formed}
-use Rattle.slots.specs.declared.Newest.the-variants.{Is}
 use Rattle.slots.proofs.Records.{u32-in}
 use Rattle.slots.proofs.Views.{one-view}
 use Rattle.journal.specs.declared.Booked.{Booked}
@@ -29,7 +25,7 @@ use Rattle.journal.specs.declared.Told.the-variants as told
 use Rattle.journal.specs.declared.Shown.{Shown}
 use Rattle.journal.specs.declared.Shown.the-variants as shown
 use Rattle.journal.specs.Held.{recordAt, heldAfter, heldList, lowOf, serialOf}
-use Rattle.journal.specs.Rules.{heldSlots, bookRule, bookBytes, Tally, Telling, Shows, the-record, nothing, saidBooked, saidReleased, saidTold, saidShown, Books, Releases, TellsOf, Finds, ShowsOf, NumberOfShow}
+use Rattle.journal.specs.Rules.{Tally, Telling, Shows, the-record, nothing, saidBooked, saidReleased, saidTold, saidShown, Books, Releases, TellsOf, Finds, ShowsOf, NumberOfShow}
 
 -- ---- an answer is told by what it says
 
@@ -130,16 +126,3 @@ rising-after j n b low (suc m) f l h = go (isHeld (stateOf j n (low + 1))) (risi
 -- "held records .. by rising serial, each once": never by clock
 pub oldest-first : (j : List ℕ) (b : ℕ) → Formed j (slotsOf j) b → Rising 0 (heldList j b)
 oldest-first j b f = rising-down 0 (lowOf j b) (heldList j b) (omega arith) (rising-after j (slotsOf j) b (lowOf j b) (b - lowOf j b) f (omega arith) (omega arith))
-
--- ---- W13
-
--- "W13 booking W1's PAN, label 7, amount 250, clock 0 in one empty slot gives, in hex, 01 00 00 00, 00 00 00 00, FA 00 00 00, 07 00, 10, 01,
--- 34 31 31 31 31 31, 31 31 31 31, six 00"
-pub w13-rule : bookRule (Is 0) (replicate 32 0) (bytesOf "4111111111111111") 7 250 ≡ gives 1
-unfolding bookRule every isDigit passes luhnSum weighed even heldSlots isHeld
-w13-rule = refl
-
-pub w13 : bookBytes (Is 0) (replicate 32 0) (bytesOf "4111111111111111") 7 250 0
-    ≡ 1 ∷ 0 ∷ 0 ∷ 0 ∷ 0 ∷ 0 ∷ 0 ∷ 0 ∷ 250 ∷ 0 ∷ 0 ∷ 0 ∷ 7 ∷ 0 ∷ 16 ∷ 1 ∷ 52 ∷ 49 ∷ 49 ∷ 49 ∷ 49 ∷ 49 ∷ 49 ∷ 49 ∷ 49 ∷ 49 ∷ 0 ∷ 0 ∷ 0 ∷ 0 ∷ 0 ∷ 0 ∷ []
-unfolding bookBytes put record32 le32 le16 heldState frontShown backShown
-w13 = ap (λ o. after o (replicate 32 0) (λ s. put (replicate 32 0) (place 1 s) (record32 s 0 250 7 (bytesOf "4111111111111111")))) w13-rule

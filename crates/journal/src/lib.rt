@@ -4,7 +4,6 @@ use slots::Newest;
 
 pub mod inner;
 
-ghost use mathlib.Core.Path.{_≡_};
 ghost use Rattle.journal.specs.Survey.{Surveys};
 ghost use Rattle.journal.specs.Rules.{Books, Releases, TellsOf, Finds, ShowsOf, NumberOfShow};
 

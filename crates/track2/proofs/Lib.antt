@@ -1,4 +1,3 @@
 pub mod Laws
 pub mod Counts
 pub mod Both
-pub mod Worked
