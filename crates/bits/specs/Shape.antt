@@ -36,9 +36,9 @@ pub record Sound (h : Shape) : Type 0 where
   pub first-is : number (take (h .size) (true ∷ bitsOf (h .size) (h .start))) ≡ h .first
 
 -- what next_char and read_one say, the latter with the bytes that it wrote
-abbrev pub charSaid : Char → Outcome ℕ
-charSaid (Number n) = gives n
-charSaid (Unread r) = refuses (numberOf r)
+abbrev pub saidChar : Char → Outcome ℕ
+saidChar (Number n) = gives n
+saidChar (Unread r) = refuses (numberOf r)
 
 abbrev pub found : Found → List ℕ → Outcome (List ℕ)
 found (Chars n) out = gives (take n out)

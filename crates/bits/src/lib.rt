@@ -9,7 +9,7 @@ ghost use lib.Dec.{eqb};
 ghost use Rattle.reasons.specs.Reasons.{numberOf, gives, andThen, said as tested};
 ghost use Rattle.bits.specs.Stream.{bitAt, bitN, stream, number};
 ghost use Rattle.bits.specs.Reading.{next, skip, allZero, finish, body, readOne, readEither, readRule, bytesAfter, readBytes, said, counted};
-ghost use Rattle.bits.specs.Shape.{lettersOf, formatOf, Sound, charSaid, found, foundCount, WayRead};
+ghost use Rattle.bits.specs.Shape.{lettersOf, formatOf, Sound, saidChar, found, foundCount, WayRead};
 use reasons::Reason;
 use reasons::Tested;
 
@@ -69,7 +69,7 @@ pub enum Char {
 
 fn next_char(s: &[u8], count: usize, reversed: bool, at: usize, size: usize) -> Char
     requires { ⌜ (count ≤ 8 * length (now s)) × (at ≤ count) × (size ≤ 7) ⌝ }
-    ensures { λ r. ⌜ charSaid r ≡ next size (drop at (stream reversed (now (s .entry)) count)) ⌝ }
+    ensures { λ r. ⌜ saidChar r ≡ next size (drop at (stream reversed (now (s .entry)) count)) ⌝ }
 {
     if count - at <= size {
         return Char::Refused(Reason::CutShort);

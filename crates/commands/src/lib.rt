@@ -1,8 +1,7 @@
 // The commands, one a line, and the answer to each.
-mod checks;
-mod stripe;
-mod tables;
-
+use checks::stripe;
+use checks::tables;
+use checks::texts;
 use lines::Source;
 use payments::Place;
 use say::fields;
@@ -189,13 +188,13 @@ pub fn in_memory(shown: bool) -> State
 fn check_text(t: Check, line: &[u8]) {
     let text = script::text_of(script::word(line, 1));
     match t {
-        Check::Luhn => checks::luhn_test(text),
-        Check::LuhnMake => checks::luhn_make(text),
-        Check::Iban => checks::iban_test(text),
-        Check::IbanMake => checks::iban_make(text, script::text_of(script::word(line, 2))),
-        Check::Creditor => checks::creditor_test(text),
-        Check::CreditorMake => checks::creditor_make(text),
-        Check::Mask => checks::mask(text),
+        Check::Luhn => texts::luhn_test(text),
+        Check::LuhnMake => texts::luhn_make(text),
+        Check::Iban => texts::iban_test(text),
+        Check::IbanMake => texts::iban_make(text, script::text_of(script::word(line, 2))),
+        Check::Creditor => texts::creditor_test(text),
+        Check::CreditorMake => texts::creditor_make(text),
+        Check::Mask => texts::mask(text),
         Check::Layout => stripe::divide(text),
     }
 }

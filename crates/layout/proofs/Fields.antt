@@ -13,7 +13,7 @@ use Rattle.text.specs.Numbers.{decimal}
 use Rattle.text.proofs.Tests.{under, over, inside}
 use Rattle.text.proofs.Numbers.{decimal-turn, decimal-end}
 use Rattle.reasons.specs.Reasons.{gives, refuses, demand, andThen}
-use Rattle.layout.specs.Layout.{isExpiry, isService, lead, fieldRule, past, Places, restRule, serviceRule, expiryRule, layoutRule, dueSaid}
+use Rattle.layout.specs.Layout.{isExpiry, isService, lead, fieldRule, past, Places, restRule, serviceRule, expiryRule, layoutRule, saidDue}
 use Rattle.layout.specs.declared.Field.{Field}
 use Rattle.layout.specs.declared.Field.the-variants.{Absent, At}
 use Rattle.layout.specs.declared.Due.{Due}
@@ -75,13 +75,13 @@ pub rest-tested : (s : List ℕ) (d : Places) (b : Bool) → allDigits (take (le
 unfolding restRule
 rest-tested s d b e = rw (← take-all (length s) (drop (d .rest) s) (rw length-drop (omega arith)), e)
 
-pub service-next : (s : List ℕ) (p : ℕ) (e : Field) (q : ℕ) (v : Due) → dueSaid q v ≡ fieldRule isService 3 s q
-    → andThen (dueSaid q v) (λ f. restRule s (record { pan = p; expiry = e; service = f; rest = past 3 q f })) ≡ serviceRule s p e q
+pub service-next : (s : List ℕ) (p : ℕ) (e : Field) (q : ℕ) (v : Due) → saidDue q v ≡ fieldRule isService 3 s q
+    → andThen (saidDue q v) (λ f. restRule s (record { pan = p; expiry = e; service = f; rest = past 3 q f })) ≡ serviceRule s p e q
 unfolding serviceRule
 service-next s p e q v h = rw h
 
-pub expiry-next : (s : List ℕ) (p : ℕ) (v : Due) → dueSaid (p + 1) v ≡ fieldRule isExpiry 4 s (p + 1)
-    → andThen (dueSaid (p + 1) v) (λ f. serviceRule s p f (past 4 (p + 1) f)) ≡ expiryRule s p
+pub expiry-next : (s : List ℕ) (p : ℕ) (v : Due) → saidDue (p + 1) v ≡ fieldRule isExpiry 4 s (p + 1)
+    → andThen (saidDue (p + 1) v) (λ f. serviceRule s p f (past 4 (p + 1) f)) ≡ expiryRule s p
 unfolding expiryRule
 expiry-next s p v h = rw h
 

@@ -73,10 +73,10 @@ abbrev pub said : Division → Outcome Places
 said (Fields p e v r) = gives (record { pan = p; expiry = e; service = v; rest = r })
 said (Refused r) = refuses (numberOf r)
 
-abbrev pub dueSaid : ℕ → Due → Outcome Field
-dueSaid q Missing = gives Absent
-dueSaid q Present = gives (At q)
-dueSaid q Wrong = refuses 6
+abbrev pub saidDue : ℕ → Due → Outcome Field
+saidDue q Missing = gives Absent
+saidDue q Present = gives (At q)
+saidDue q Wrong = refuses 6
 
 -- each part's start and size: "a refusal gives an empty part", and so does an absent field
 pub record Cut : Type 0 where

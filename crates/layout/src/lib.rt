@@ -6,7 +6,7 @@ ghost use Prim.Native.Nat.{ℕ, _<_, _≤_, _+_};
 ghost use lib.ListN.{length, getD, take, drop};
 ghost use Rattle.text.specs.Parts.{PartOf};
 ghost use Rattle.reasons.specs.Reasons.{numberIn};
-ghost use Rattle.layout.specs.Layout.{isExpiry, isService, lead, fieldRule, restRule, serviceRule, expiryRule, layoutRule, said, dueSaid, CutOf, fieldCut, panCut, expiryCut, serviceCut, restCut};
+ghost use Rattle.layout.specs.Layout.{isExpiry, isService, lead, fieldRule, restRule, serviceRule, expiryRule, layoutRule, said, saidDue, CutOf, fieldCut, panCut, expiryCut, serviceCut, restCut};
 use reasons::Reason;
 
 // The byte at i, or 0 past the end.
@@ -72,7 +72,7 @@ pub enum Due {
 
 // What is due at `at`, where `fits` tells whether the bytes from there pass the field's test.
 fn due_at(chars: &[u8], at: usize, fits: bool) -> Due
-    ensures { λ r. ⌜ ((test : List ℕ → Bool) (n : ℕ) → fits ≡ test (take n (drop at (now (chars .entry)))) → dueSaid at r ≡ fieldRule test n (now (chars .entry)) at) ⌝ }
+    ensures { λ r. ⌜ ((test : List ℕ → Bool) (n : ℕ) → fits ≡ test (take n (drop at (now (chars .entry)))) → saidDue at r ≡ fieldRule test n (now (chars .entry)) at) ⌝ }
 {
     if byte_at(chars, at) == 61 {
         return Due::Missing;

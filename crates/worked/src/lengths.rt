@@ -96,6 +96,14 @@ fn range(site: &[u8], acquirer: &[u8]) {
     }
 }
 
+fn tables() {
+    let zeros = [0u8; 65552];
+    range(&zeros[0..65536], b"");
+    range(&zeros, b"");
+    range(b"", &zeros[0..65536]);
+    range(b"", &zeros);
+}
+
 fn tell(journal: &[u8]) {
     say::words(b"tell of a journal of ");
     say::number(journal.len() as u64);
@@ -106,19 +114,20 @@ fn tell(journal: &[u8]) {
     }
 }
 
-pub fn run() {
+fn journals() {
     let zeros = [0u8; 65568];
+    tell(&zeros[0..65536]);
+    tell(&zeros);
+}
+
+pub fn run() {
     say::words(b"\n# Lengths at their bounds\n");
     mask(15);
     mask(16);
     mask(18);
-    range(&zeros[0..65536], b"");
-    range(&zeros[0..65552], b"");
-    range(b"", &zeros[0..65536]);
-    range(b"", &zeros[0..65552]);
+    tables();
     reads();
-    tell(&zeros[0..65536]);
-    tell(&zeros);
+    journals();
     swipe(36);
     swipe(38);
 }

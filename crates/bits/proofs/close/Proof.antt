@@ -9,7 +9,7 @@ use lib.Seq.{drop-drop}
 use Rattle.reasons.specs.Reasons.{gives, demand}
 use Rattle.bits.specs.Stream.{stream}
 use Rattle.bits.specs.Reading.{next, finish}
-use Rattle.bits.specs.Shape.{charSaid}
+use Rattle.bits.specs.Shape.{saidChar}
 use Rattle.bits.proofs.Chars.{char-fits, close-refused, close-wrong, close-right}
 use Rattle.bits.proofs.close.Statement.{statement}
 use Rattle.bits.proofs.close.Tie as tie
@@ -20,7 +20,7 @@ number-is : (c : tie.After-known-told2) →
     gives (c .before .c2 .given .0 .0) ≡ next (a .size) (drop (a .at) (stream (a .reversed) (a .s .now) (a .count)))
 number-is c =
     let m = c .before .before .before in
-    sym (ap charSaid (c .before .c2 .given .1)) ∙ m .next-char .ensures
+    sym (ap saidChar (c .before .c2 .given .1)) ∙ m .next-char .ensures
 
 fits : (c : tie.After-known-told2) →
     let a = c .before .before .before .before .before .args in
@@ -67,7 +67,7 @@ returns-2 c = zeros (c .before) true (c .if2 .taken)
 returns-3 : tie.Need-returns-3
 returns-3 c = λ out.
     let m = c .before .before .before in
-    close-refused _ _ out _ _ (sym (ap charSaid (c .before .c .given .1)) ∙ m .next-char .ensures)
+    close-refused _ _ out _ _ (sym (ap saidChar (c .before .c .given .1)) ∙ m .next-char .ensures)
 
 returns-4 : tie.Need-returns-4
 returns-4 c = zeros (c .before) false (c .if2 .left)

@@ -8,7 +8,7 @@ use lib.ListN.{length, take, drop, length-set}
 use Rattle.reasons.specs.Reasons.{gives}
 use Rattle.bits.specs.Stream.{stream}
 use Rattle.bits.specs.Reading.{next, body}
-use Rattle.bits.specs.Shape.{lettersOf, charSaid}
+use Rattle.bits.specs.Shape.{lettersOf, saidChar}
 use Rattle.bits.proofs.Chars.{char-fits, char-lt}
 use Rattle.bits.proofs.Bodies.{body-none, body-refused, ends, turn, byte-fits}
 use Rattle.bits.proofs.read_body.Statement.{statement}
@@ -28,7 +28,7 @@ number-is : (c : tie.After-known-told2 Inv-loop μ-loop) →
     let m = c .before .before .before in
     let a = m .before .before .before .before .before .before .args in
     gives (c .before .c2 .given .0 .0) ≡ next (a .h .size) (drop (m .before .before .loop .at) (stream (a .reversed) (a .s .now) (a .count)))
-number-is c = sym (ap charSaid (c .before .c2 .given .1)) ∙ c .before .before .before .next-char .ensures
+number-is c = sym (ap saidChar (c .before .c2 .given .1)) ∙ c .before .before .before .next-char .ensures
 
 fits : (c : tie.After-known-told2 Inv-loop μ-loop) →
     let m = c .before .before .before in
@@ -62,7 +62,7 @@ returns : tie.Need-returns Inv-loop μ-loop
 returns c =
     let m = c .before .before .before in
     let l = m .before .before .loop in (
-      body-refused _ _ _ _ _ (omega arith) _ (sym (ap charSaid (c .before .c .given .1)) ∙ m .next-char .ensures) ∙ sym (l .inv .0),
+      body-refused _ _ _ _ _ (omega arith) _ (sym (ap saidChar (c .before .c .given .1)) ∙ m .next-char .ensures) ∙ sym (l .inv .0),
       m .before .before .before .before .before .before .pre .2 .some,
     )
 

@@ -1,7 +1,7 @@
 use borrow.Author.Needs.{needs}
 use Prim.Native.Nat.{_+_}
 use mathlib.Core.Path.{_≡_, sym, ap, _∙_}
-use Rattle.layout.specs.Layout.{isExpiry, fieldRule, dueSaid}
+use Rattle.layout.specs.Layout.{isExpiry, fieldRule, saidDue}
 use Rattle.layout.specs.declared.Due.{Due}
 use Rattle.layout.specs.declared.Due.the-variants.{Missing, Present, Wrong}
 use Rattle.layout.proofs.Fields.{expiry-next}
@@ -11,10 +11,10 @@ use Rattle.layout.proofs.with_expiry.Tie as tie
 -- what stands at the expiry's place
 due : (c : tie.After-due-at) (v : Due) → c .due-at .result ≡ v →
     let a = c .before .before .before .before .args in
-    dueSaid (a .pan + 1) v ≡ fieldRule isExpiry 4 (a .chars .now) (a .pan + 1)
+    saidDue (a .pan + 1) v ≡ fieldRule isExpiry 4 (a .chars .now) (a .pan + 1)
 due c v e =
     let t = c .before in
-    sym (ap (dueSaid _) e) ∙ c .due-at .ensures isExpiry 4 (t .is-expiry .ensures ∙ ap isExpiry (t .before .piece .ensures))
+    sym (ap (saidDue _) e) ∙ c .due-at .ensures isExpiry 4 (t .is-expiry .ensures ∙ ap isExpiry (t .before .piece .ensures))
 
 add-at : tie.Need-add-at
 add-at c = search needs

@@ -1,6 +1,6 @@
 use borrow.Author.Needs.{needs}
 use mathlib.Core.Path.{_≡_, sym, ap, _∙_}
-use Rattle.layout.specs.Layout.{isService, fieldRule, dueSaid}
+use Rattle.layout.specs.Layout.{isService, fieldRule, saidDue}
 use Rattle.layout.specs.declared.Due.{Due}
 use Rattle.layout.specs.declared.Due.the-variants.{Missing, Present, Wrong}
 use Rattle.layout.proofs.Fields.{service-next}
@@ -10,10 +10,10 @@ use Rattle.layout.proofs.with_service.Tie as tie
 -- what stands at the service code's place
 due : (c : tie.After-due-at) (v : Due) → c .due-at .result ≡ v →
     let a = c .before .before .before .before .args in
-    dueSaid (a .at) v ≡ fieldRule isService 3 (a .chars .now) (a .at)
+    saidDue (a .at) v ≡ fieldRule isService 3 (a .chars .now) (a .at)
 due c v e =
     let t = c .before in
-    sym (ap (dueSaid _) e) ∙ c .due-at .ensures isService 3 (t .is-service .ensures ∙ ap isService (t .before .piece .ensures))
+    sym (ap (saidDue _) e) ∙ c .due-at .ensures isService 3 (t .is-service .ensures ∙ ap isService (t .before .piece .ensures))
 
 piece-requires : tie.Need-piece-requires
 piece-requires c κs = search needs
