@@ -187,7 +187,7 @@ fn read_body(s: &[u8], count: usize, reversed: bool, from: usize, h: Shape, out:
 }
 
 // A reading one way. Where it refuses, `out` may hold characters too.
-pub fn read_one(s: &[u8], count: usize, reversed: bool, h: Shape, out: &mut [u8]) -> Found
+fn read_one(s: &[u8], count: usize, reversed: bool, h: Shape, out: &mut [u8]) -> Found
     requires { ⌜ (count ≤ 8 * length (now s)) × Sound h × (h .limit ≤ length (now out) + 1) ⌝ }
     ensures { λ r. ⌜ (found r (now (out .exit)) ≡ readOne (formatOf h) (stream reversed (now (s .entry)) count)) × (foundCount r + 2 ≤ h .limit) ⌝ }
 {

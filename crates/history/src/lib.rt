@@ -8,7 +8,7 @@ ghost use Prim.Native.Nat.{ℕ, min, _+_, _*_, _/_, _%_, _≤_, _<_};
 ghost use lib.ListN.{getD, length};
 ghost use Rattle.slots.specs.Journal.{NewestIs};
 ghost use Rattle.slots.specs.declared.Newest.the-variants.{Is};
-ghost use Rattle.history.specs.History.{book, swipe, release, aside};
+ghost use Rattle.history.specs.History.{book, swipe, release};
 ghost use Rattle.history.specs.Script.{panAt, labelAt, amountAt, clockAt, serialAt, bitsAt, streamAt, callAt, replayRule, PlaysOne, PlaysAll, Adds, Replays, Conserves};
 
 // What calls came to: the payments booked and their amounts, those released and their amounts as the releases answered, the calls refused, and

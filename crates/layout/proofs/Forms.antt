@@ -1,5 +1,5 @@
 -- The PAN and one field, by the definitions and by the grammar. Assumes nothing.
-use Prim.Native.Nat.{ℕ, zero, suc, suc-le-suc, _+_, _-_, _<_}
+use Prim.Native.Nat.{ℕ, zero, suc, suc-le-suc, _+_, _<_}
 use mathlib.Core.Path.{_≡_, refl, sym, ap, _∙_, subst}
 use mathlib.Core.Bool.{Bool, true, false, cond}
 use mathlib.Core.List.{List, [], _∷_, _++_}

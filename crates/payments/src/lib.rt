@@ -4,14 +4,11 @@ use journal::Released;
 use journal::Shown;
 use journal::Surveyed;
 use journal::Told;
-use reasons::Reason;
 use say::fields;
 use say::fields::Filled;
-use slots::Newest;
 use swipe::Swiped;
 ghost use Prim.Native.Nat.{_+_, _≤_, _<_};
 ghost use lib.ListN.{length};
-ghost use Rattle.slots.specs.Journal.{Formed, slotsOf};
 
 // Where the journal is kept: in memory alone, or in a file too.
 pub struct Place {
@@ -382,55 +379,45 @@ fn hidden(n: u8) -> usize {
     (n - 10) as usize
 }
 
-// The line of a held record: serial, amount, masked PAN.
-fn entry(slot: &[u8])
-    requires { ⌜ 32 ≤ length (now slot) ⌝ }
-{
-    say::number(text::u32_at(slot, 0) as u64);
-    say::words(b" ");
-    say::number(text::u32_at(slot, 8) as u64);
-    say::words(b" ");
-    say::words(&slot[16..22]);
-    say::words(text::piece(b"*********", 0, hidden(slot[14])));
-    say::words(&slot[22..26]);
-    say::line();
-}
-
-// Writes the line of a serial whose record is held: how many lines that were.
-fn listed(journal: &[u8], newest: u32, serial: u32) -> u64
-    requires { ⌜ Formed (now journal) (slotsOf (now journal)) newest ⌝ }
+// Writes the line of a held record, serial, amount and masked PAN, and none for the empty part: how many lines that were.
+fn entry(record: &[u8]) -> u64
     ensures { λ r. ⌜ r ≤ 1 ⌝ }
 {
-    match journal::inner::find_at(journal, newest, serial) {
-        Shown::At(at) => {
-            entry(&journal[at..at + 32]);
-            1
-        }
-        Shown::Refused(_) => 0,
+    if record.len() < 32 {
+        return 0;
     }
+    say::number(text::u32_at(record, 0) as u64);
+    say::words(b" ");
+    say::number(text::u32_at(record, 8) as u64);
+    say::words(b" ");
+    say::words(&record[16..22]);
+    say::words(text::piece(b"*********", 0, hidden(record[14])));
+    say::words(&record[22..26]);
+    say::line();
+    1
 }
 
-// Lists the held records of the serials above `low` up to the newest: how many there were.
-fn list(journal: &[u8], low: u32, newest: u32) -> u64
-    requires { ⌜ Formed (now journal) (slotsOf (now journal)) newest ⌝ }
-{
+// Lists the held records from the oldest on, by steps of a walk: how many there were. A walk that is done stays done.
+fn list(journal: &[u8], oldest: u32) -> u64 {
     let mut count: u64 = 0;
-    let mut serial = low;
-    while serial < newest {
-        serial += 1;
-        count += listed(journal, newest, serial);
+    let mut serial = oldest;
+    let mut steps = journal.len() / 32;
+    while 0 < steps {
+        count += entry(walker::held_at(journal, serial));
+        serial = walker::next_of(journal, serial);
+        steps -= 1;
     }
     count
 }
 
 pub fn held(journal: &[u8]) {
-    match slots::newest_of(journal) {
-        Newest::Is(newest) => {
-            let count = list(journal, slots::floor_of(journal.len() / 32, newest), newest);
+    match journal::tell(journal) {
+        Told::Held(_, _, oldest, _) => {
+            let count = list(journal, oldest);
             say::words(b"done ");
             say::number(count);
             say::line();
         }
-        Newest::Malformed => say::refused(Reason::BadJournal),
+        Told::Refused(why) => say::refused(why),
     }
 }

@@ -22,7 +22,7 @@ pub fn is_held(x: u8) -> bool
     x == 1
 }
 
-pub fn is_released(x: u8) -> bool
+fn is_released(x: u8) -> bool
     ensures { λ r. ⌜ r ≡ isReleased x ⌝ }
 {
     x == 2

@@ -1,6 +1,6 @@
 -- Equal remainders: the laws of sums and products, over any divisor, and those that divide.
 -- Assumes nothing.
-use Prim.Native.Nat.{ℕ, suc, _+_, _*_, _-_, _%_, _/_}
+use Prim.Native.Nat.{ℕ, suc, _+_, _*_, _%_, _/_}
 use mathlib.Core.Path.{_≡_, refl, sym, ap, _∙_}
 use native.Mathlib.Omega.{arith}
 use native.Mathlib.Nat.{add-mod, div-add-mod, mul-add, mul-left-comm, mul-add-mod-self-left, mul-comm, mul-assoc, add-mul-mod-self-left}

@@ -1,4 +1,3 @@
-use Prim.Native.Nat.{_-_}
 use mathlib.Core.Path.{subst}
 use Rattle.slots.specs.Journal.{NewestIs}
 use Rattle.slots.proofs.Views.{seen}

@@ -1,4 +1,3 @@
-use Prim.Native.Nat.{_-_}
 use mathlib.Core.Path.{sym, ap, _∙_}
 use Rattle.journal.specs.Rules.{saidShown}
 use Rattle.reasons.specs.Reasons.{numberIn}

@@ -1,26 +1,33 @@
--- `list`: no more lines than serials. Assumes nothing.
-use Prim.Native.Nat.{_≤_, _-_}
+-- `list`: no more lines than steps. Assumes nothing.
+use Prim.Native.Nat.{_+_, _/_, _≤_}
 use borrow.Author.Needs.{needs}
+use lib.ListN.{length}
 use Rattle.payments.proofs.list.Statement.{statement}
 use Rattle.payments.proofs.list.Tie as tie
 
 abbrev Inv-loop : tie.InvT-loop
-Inv-loop journal low newest count₀ serial₀ count serial = (count ≤ serial) × (low ≤ serial)
+Inv-loop journal oldest count₀ serial₀ steps₀ count serial steps = count + steps ≤ length journal / 32
 
 abbrev μ-loop : tie.MeasureT-loop
-μ-loop journal low newest count₀ serial₀ count serial = newest - serial
+μ-loop journal oldest count₀ serial₀ steps₀ count serial steps = steps
 
 loop-holds : tie.Need-loop-holds Inv-loop μ-loop
 loop-holds c = search needs
 
-add-serial : tie.Need-add-serial Inv-loop μ-loop
-add-serial c = search needs
+held-at-requires : tie.Need-held-at-requires Inv-loop μ-loop
+held-at-requires c κs = search needs
 
-listed-requires : tie.Need-listed-requires Inv-loop μ-loop
-listed-requires c κs = search needs
+entry-requires : tie.Need-entry-requires Inv-loop μ-loop
+entry-requires c κs = search needs
 
 add-count : tie.Need-add-count Inv-loop μ-loop
 add-count c = search needs
+
+next-of-requires : tie.Need-next-of-requires Inv-loop μ-loop
+next-of-requires c κs = search needs
+
+sub-steps : tie.Need-sub-steps Inv-loop μ-loop
+sub-steps c = search needs
 
 loop-less : tie.Need-loop-less Inv-loop μ-loop
 loop-less c = search needs
@@ -38,9 +45,11 @@ list-spec =
     Inv-loop
     μ-loop
     loop-holds
-    add-serial
-    listed-requires
+    held-at-requires
+    entry-requires
     add-count
+    next-of-requires
+    sub-steps
     loop-less
     loop-again
     returns)

@@ -1,7 +1,6 @@
 use borrow.Author.Needs.{needs}
 use Rattle.slots.proofs.rest_zero.Statement.{statement}
 use Rattle.slots.proofs.rest_zero.Tie as tie
-use Prim.Native.Nat.{_-_}
 use native.Mathlib.Omega.{arith}
 use Rattle.slots.proofs.Ranges.{tells-yes}
 

@@ -2,7 +2,6 @@ use Rattle.reasons.specs.Reasons.{said}
 use Rattle.text.proofs.Tests.{inside-is}
 use Rattle.journal.proofs.Rule.{Fine, fine, book-pan, book-zero, book-last, book-full, book-done, book-same, book-wrote}
 use Rattle.journal.proofs.inner.book_at.Statement.{statement}
-use Prim.Native.Nat.{_-_}
 use native.Mathlib.Omega.{arith}
 use mathlib.Core.Path.{sym, ap, _∙_}
 use Rattle.slots.specs.declared.Newest.the-variants.{Is}

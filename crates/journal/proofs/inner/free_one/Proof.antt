@@ -1,4 +1,3 @@
-use Prim.Native.Nat.{_-_}
 use mathlib.Core.Path.{refl, sym, _∙_}
 use lib.ListN.{length-set}
 use Rattle.journal.proofs.Walks.{freed-held, freed-not}

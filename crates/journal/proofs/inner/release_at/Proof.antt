@@ -1,4 +1,3 @@
-use Prim.Native.Nat.{_-_}
 use native.Mathlib.Omega.{arith}
 use Rattle.journal.proofs.Rule.{release-none, release-above, release-same, release-freed}
 use Rattle.journal.proofs.inner.release_at.Statement.{statement}

@@ -1,4 +1,3 @@
-use Prim.Native.Nat.{_-_}
 use Rattle.journal.proofs.Rule.{tell-done}
 use Rattle.journal.proofs.inner.tell_at.Statement.{statement}
 use borrow.Author.Needs.{needs}
