@@ -1,4 +1,3 @@
-pub mod Walk
 pub mod Values
 pub mod Hands
 pub mod Calls
