@@ -1,3 +1,4 @@
 pub mod Values
 pub mod Hands
 pub mod Calls
+pub mod Programs

@@ -2,11 +2,11 @@
 use Prim.Native.Nat.{ℕ, zero, suc, max, _≤_, _<_, _+_, _-_}
 use mathlib.Core.Path.{_≡_, refl, sym, ap, _∙_, subst, subst⁻¹}
 use mathlib.Core.Bool.{Bool, true, cond}
-use mathlib.Core.List.{List, [], _∷_}
+use mathlib.Core.List.{List, _∷_}
 use native.Mathlib.Omega.{arith}
 use native.Mathlib.Decide.{decLt}
 use lib.ListN.{take, drop}
-use Rattle.reasons.specs.Reasons.{Outcome, gives}
+use Rattle.reasons.specs.Reasons.{gives}
 use Rattle.slots.specs.Record.{isHeld}
 use Rattle.slots.specs.Journal.{slotsOf, place, stateOf, Formed}
 use Rattle.slots.specs.declared.Newest.the-variants.{Is}
@@ -14,7 +14,7 @@ use Rattle.journal.specs.Held.{recordAt, heldAfter, heldList, lowOf, firstOf}
 use Rattle.journal.specs.Rules.{tellRule}
 use Rattle.journal.proofs.Lists.{held-up}
 use Rattle.walker.specs.Walk.{nextOf}
-use Rattle.walker.specs.Steps.{firstAbove, walkPlace, walkRule, startRule, stepRule, Above, above-done, above-next, Onward, onward-done, onward-next}
+use Rattle.walker.specs.Steps.{firstAbove, walkRule, startRule, stepRule, Above, above-done, above-next, Onward, onward-done, onward-next}
 use Rattle.walker.proofs.Held.{here, next-held}
 use Rattle.walker.proofs.Steps.{place-there, walk-given, step-found}
 use Rattle.walker.proofs.Laws.{held-here, last-next, Begins, empty, begins, first-held, first-serial, first-none}
