@@ -49,7 +49,8 @@
  *   byte, and no other slot is. The payment under way wasn't taken. The journal
  *   may then not be well formed, and calls answer 16: gw_journal_survey still
  *   says which slots are held. Memory that writes 32 aligned bytes at once never
- *   shows this.
+ *   shows this; a journal of one slot needs such memory, since there a cut within
+ *   the four bytes of a serial can leave a lower one, and serials repeat.
  * - A release cut short is the release of a lower serial, and well formed.
  *
  * examples/terminal.c keeps its journal so.

@@ -3,7 +3,8 @@
  * kept by the example's own store (examples/store.h), whose writes and syncs come
  * here: the bytes that a cut leaves are those of the first k writes. The store is
  * opened on them again, and every payment that was answered as booked, and isn't
- * released, must be held there, byte for byte, and no other.
+ * released, must be held there, byte for byte, and no other; and no serial comes
+ * again, of two slots or more.
  *
  *   cuts FOLDER [HISTORIES]
  */
@@ -12,7 +13,7 @@
 #include <stdio.h>
 #include <stdlib.h>
 #include <string.h>
-#include <sys/types.h>
+#include <unistd.h>
 
 static ssize_t cut_pwrite(int file, const void *from, size_t n, off_t at);
 static int cut_fsync(int file);
@@ -23,11 +24,15 @@ static int cut_fsync(int file);
 #undef fsync
 #include "cases.h"
 
-enum { CALLS_EACH = 400, MOST = GW_JOURNAL_SLOTS + CALLS_EACH, SLOT = GW_SLOT_BYTES };
+/* Calls of a history; payments before every second and third one's first call, so that
+ * serials take a second byte on the way. */
+enum { CALLS_EACH = 1000, LATER = 240, MOST = 2 * LATER + CALLS_EACH, SLOT = GW_SLOT_BYTES };
 
 static char path[PATH_MAX], again_path[PATH_MAX];
 static struct store store, again;
+static int left_file; /* at again_path */
 static uint64_t cuts, malformed, histories;
+static bool uncut; /* the payments before a history's first: nothing is cut */
 
 /* What the caller was answered: each booked record, and how far the release went. */
 static uint8_t booked[MOST + 1][SLOT]; /* by serial */
@@ -74,9 +79,8 @@ static int cut_fsync(int file)
 /* The store opened on what a cut left. */
 static void start_again(const uint8_t *left)
 {
-    FILE *file = fopen(again_path, "wb");
     size_t n = store_bytes(&store);
-    expect(file && fwrite(left, 1, n, file) == n && fclose(file) == 0, "no file to start from");
+    expect(pwrite(left_file, left, n, 0) == (ssize_t)n, "no file to start from");
     expect(store_open(&again, again_path, store.slots), "the store doesn't open");
     close(again.file);
 }
@@ -113,6 +117,15 @@ static bool surveyed(uint32_t low, uint32_t high)
     return formed == 0 && held == high - low;
 }
 
+/* The newest serial is that of the booking under way, or the one before it. */
+static bool serials_go_on(void)
+{
+    uint32_t count, oldest, found;
+    uint64_t sum;
+    return gw_journal_tell(again.journal, store_bytes(&again), &count, &sum, &oldest, &found) == 0
+        && (found == newest || found + 1 == newest);
+}
+
 /* ---- Every cut of one call ---------------------------------------------- */
 
 /* A booking cut short of its last byte was not taken; one that is whole was. */
@@ -120,7 +133,9 @@ static void booking_cut(size_t k)
 {
     if (k == SLOT) {
         expect(holds(released, newest), "a booking written whole isn't held");
-    } else if (!holds(released, newest - 1)) {
+    } else if (holds(released, newest - 1)) {
+        expect(serials_go_on() || again.slots == 1, "a serial comes again");
+    } else {
         expect(k > 0 && surveyed(released, newest - 1), "a booking cut short");
         malformed++;
     }
@@ -132,20 +147,27 @@ static void release_cut(uint32_t before, size_t k)
     expect(holds(before + (uint32_t)k, newest), "a release cut short");
 }
 
+static void cut_at(bool booking, uint32_t before, size_t k, const uint8_t *left)
+{
+    cuts++;
+    start_again(left);
+    if (booking)
+        booking_cut(k);
+    else
+        release_cut(before, k);
+}
+
 /* The bytes of the first k writes, for every k; `before` is how far the release went. */
 static void cut_everywhere(bool booking, uint32_t before)
 {
     static uint8_t left[sizeof memory];
     expect(synced == written, "answered before it was synced");
     memcpy(left, memory, store_bytes(&store));
-    for (size_t k = 0; k <= written; k++, cuts++) {
+    for (size_t k = 0; k <= written; k++) {
         if (k > 0)
             left[writes[k - 1].at] = writes[k - 1].byte;
-        start_again(left);
-        if (booking)
-            booking_cut(k);
-        else
-            release_cut(before, k);
+        if (!uncut)
+            cut_at(booking, before, k, left);
     }
     memcpy(memory, left, store_bytes(&store));
     expect(memcmp(memory, store.journal, store_bytes(&store)) == 0, "not all was written");
@@ -171,9 +193,9 @@ static void book(void)
     cut_everywhere(true, released);
 }
 
-static void release(void)
+static void release(uint32_t up_to)
 {
-    uint32_t oldest, count, before = released, up_to = 1 + below(newest + 1);
+    uint32_t oldest, count, before = released;
     uint64_t sum;
     expect(gw_walk_start(store.journal, store_bytes(&store), &oldest) == 0, "a walk's start");
     if (gw_journal_release(store.journal, store_bytes(&store), up_to, &count, &sum) == 20)
@@ -184,15 +206,21 @@ static void release(void)
     cut_everywhere(false, before);
 }
 
-static void history(uint32_t slots)
+/* A history that begins after so many payments. */
+static void history(uint32_t slots, uint32_t begin)
 {
     newest = released = 0;
     unlink(path);
     memset(memory, 0, sizeof memory);
+    left_file = open(again_path, O_RDWR | O_CREAT | O_TRUNC, 0600);
     expect(store_open(&store, path, slots), "a new store doesn't open");
+    for (uncut = true; newest < begin; release(newest))
+        book();
+    uncut = false;
     for (int i = 0; i < CALLS_EACH; i++)
-        one_in(5) ? release() : book();
+        one_in(3) ? release(1 + below(newest + 1)) : book();
     close(store.file);
+    close(left_file);
     histories++;
 }
 
@@ -207,7 +235,7 @@ int main(int argc, char **argv)
     for (uint64_t r = 0; r < rounds; r++)
         for (size_t i = 0; i < sizeof slots / sizeof slots[0]; i++) {
             begin_case(r, i);
-            history(slots[i]);
+            history(slots[i], (uint32_t)(r % 3) * LATER);
         }
     printf("cuts: %" PRIu64 " in %" PRIu64 " histories of %d calls, %" PRIu64
            " not well formed; every payment found\n", cuts, histories, CALLS_EACH, malformed);
