@@ -43,10 +43,12 @@ promised-does j clock surveys x r y k w = (record { says = w .0 .answer; states 
 promised-does j clock (swipes card amount) x r y k w = (record { says = w .1 .answer; scratch = y .1 }, (w .0, w .1 .allowed), (w .1 .handed, refl))
 
 -- one answer is heard in one way
-said-one : {Q A B : Type 0} (said : Q → Outcome A) {old : B} {new : A → B} {r s : ℕ} {y z : B} (p q : Q) → p ≡ q → Hands (said p) old new r y → Hands (said q) old new s z → (r ≡ s) × (y ≡ z)
+said-one : {Q A B : Type 0} (said : Q → Outcome A) {old : B} {new : A → B} {r s : ℕ} {y z : B} (p q : Q) → p ≡ q → Hands (said p) old new r y
+    → Hands (said q) old new s z → (r ≡ s) × (y ≡ z)
 said-one said p q e f g = hands-one f (outcome-is _ _ _ _ _ _ (ap said (sym e)) g)
 
-hears-one : (a : Asks) (x : Lent a) (p q : AnswerTo (callOf a x)) → SameAnswer (callOf a x) p q → (r s : ℕ) (y z : Lent a) → Hears a x p r y → Hears a x q s z → (r ≡ s) × (y ≡ z)
+hears-one : (a : Asks) (x : Lent a) (p q : AnswerTo (callOf a x)) → SameAnswer (callOf a x) p q → (r s : ℕ) (y z : Lent a) → Hears a x p r y
+    → Hears a x q s z → (r ≡ s) × (y ≡ z)
 hears-one (books pan label amount) x p q e r s y z f g = said-one saidBooked p q e f g
 hears-one (releases n) x p q e r s y z f g = said-one saidReleased p q e f g
 hears-one (shows n) x p q e r s y z f g = said-one saidShown p q e f g
@@ -72,7 +74,8 @@ program-run (one-call m w more) =
     (_, one-heard m (d .0) (d .2) (r .1), next (record { clock = m .clock; call = callOf (m .asks) (m .lent); answer = d .0; after = m .after }) (d .1) (r .2))
 
 -- demand 3, points 1 to 3, of any program in C that starts from an all-zero journal
-pub program-keeps : (n : ℕ) → 1 ≤ n → n ≤ 2048 → (ms : List Made) (j : List ℕ) → Program (replicate (32 * n) 0) ms j → (ds : List Done) × Heard ms ds × Demand3 ds j
+pub program-keeps : (n : ℕ) → 1 ≤ n → n ≤ 2048 → (ms : List Made) (j : List ℕ) → Program (replicate (32 * n) 0) ms j
+    → (ds : List Done) × Heard ms ds × Demand3 ds j
 program-keeps n l h ms j w = let r = program-run w in (r .0, r .1, demand-3 n l h (r .0) j (r .2))
 
 twin-programs : {i j k l : List ℕ} {ms ns : List Made} → SameButClocks i j → Program i ms k → Program j ns l → SameAsks ms ns → SameLeft ms ns
@@ -85,7 +88,8 @@ twin-programs {i} {j} s (one-call m p on) (one-call n q off) (same-asks {a = a} 
     same-left (h .0) (h .1) (w .1) (twin-programs (w .1) on off rest)
 
 -- demand 3, point 4: of the same calls at any clock readings C is answered the same, and finds the same journal but for its clock fields
-pub program-clocks : (n : ℕ) (ms ns : List Made) (j k : List ℕ) → Program (replicate (32 * n) 0) ms j → Program (replicate (32 * n) 0) ns k → SameAsks ms ns → SameLeft ms ns
+pub program-clocks : (n : ℕ) (ms ns : List Made) (j k : List ℕ) → Program (replicate (32 * n) 0) ms j → Program (replicate (32 * n) 0) ns k
+    → SameAsks ms ns → SameLeft ms ns
 program-clocks n ms ns j k = twin-programs (clocks-same (replicate (32 * n) 0))
 
 -- ---- whole walks
@@ -134,4 +138,7 @@ module _ (j : List ℕ) (b : ℕ) (is : NewestIs j (Is b)) where
 
   pub steps-held-only : b < 4294967296 → (x s : ℕ) → WalkStarts j x 0 s → (rs : List (List ℕ)) → Onward j (StepsTo j) s rs → rs ≡ heldList j b
   steps-held-only fits x s w rs v =
-      onward-one j (λ t y z p q. gives-one y z (sym (zero-gives _ (p .0) y (step-number j t) (p .1)) ∙ zero-gives _ (q .0) z (step-number j t) (q .1))) v (steps-held fits x s w)
+      onward-one j (λ t y z p q. gives-one y z (sym (stepped t y p) ∙ stepped t z q)) v (steps-held fits x s w)
+    where
+      stepped : (t : ℕ) (y : ℕ × ℕ) → StepsTo j t y → stepRule j t ≡ gives y
+      stepped t y p = zero-gives _ (p .0) y (step-number j t) (p .1)

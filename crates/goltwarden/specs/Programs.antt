@@ -88,12 +88,14 @@ pub record Made : Type 0 where
 -- a program that leads from the journal j to the journal k
 pub data Program : List ℕ → List Made → List ℕ → Type 0 where
   no-call : {j : List ℕ} → Program j [] j
-  one-call : {j k : List ℕ} {ms : List Made} (m : Made) → Promised j (m .clock) (m .asks) (m .lent) (m .number) (m .left) (m .after) → Program (m .after) ms k → Program j (m ∷ ms) k
+  one-call : {j k : List ℕ} {ms : List Made} (m : Made) → Promised j (m .clock) (m .asks) (m .lent) (m .number) (m .left) (m .after)
+      → Program (m .after) ms k → Program j (m ∷ ms) k
 
 -- the calls of `history` that a program's calls are, each with the answer that C was handed
 pub data Heard : List Made → List Done → Type 0 where
   none-heard : Heard [] []
-  one-heard : {ms : List Made} {ds : List Done} (m : Made) (q : AnswerTo (callOf (m .asks) (m .lent))) → Hears (m .asks) (m .lent) q (m .number) (m .left) → Heard ms ds
+  one-heard : {ms : List Made} {ds : List Done} (m : Made) (q : AnswerTo (callOf (m .asks) (m .lent)))
+      → Hears (m .asks) (m .lent) q (m .number) (m .left) → Heard ms ds
       → Heard (m ∷ ms) (record { clock = m .clock; call = callOf (m .asks) (m .lent); answer = q; after = m .after } ∷ ds)
 
 -- ---- the same calls at any clock readings
@@ -101,13 +103,15 @@ pub data Heard : List Made → List Done → Type 0 where
 pub data SameAsks : List Made → List Made → Type 0 where
   no-asks : SameAsks [] []
   same-asks : {a : Asks} {x y z : Lent a} {t u r q : ℕ} {k l : List ℕ} {ms ns : List Made} → SameAsks ms ns
-      → SameAsks (record { clock = t; asks = a; lent = x; number = r; left = y; after = k } ∷ ms) (record { clock = u; asks = a; lent = x; number = q; left = z; after = l } ∷ ns)
+      → SameAsks (record { clock = t; asks = a; lent = x; number = r; left = y; after = k } ∷ ms)
+      (record { clock = u; asks = a; lent = x; number = q; left = z; after = l } ∷ ns)
 
 -- call by call the same number answered and the same left, and after each the same journal but for its clock fields
 pub data SameLeft : List Made → List Made → Type 0 where
   nothing-left : SameLeft [] []
   same-left : {a : Asks} {x y z : Lent a} {t u r q : ℕ} {k l : List ℕ} {ms ns : List Made} → r ≡ q → y ≡ z → SameButClocks k l → SameLeft ms ns
-      → SameLeft (record { clock = t; asks = a; lent = x; number = r; left = y; after = k } ∷ ms) (record { clock = u; asks = a; lent = x; number = q; left = z; after = l } ∷ ns)
+      → SameLeft (record { clock = t; asks = a; lent = x; number = r; left = y; after = k } ∷ ms)
+      (record { clock = u; asks = a; lent = x; number = q; left = z; after = l } ∷ ns)
 
 -- ---- walks: a step that was answered 0, whatever stood behind its pointers
 

@@ -24,7 +24,8 @@ pub demand-3 : (n : ℕ) → 1 ≤ n → n ≤ 2048 → (ds : List Done) (j : Li
 demand-3 = from-zeros
 
 -- a serial is answered only for a card that says who pays: the payment that a swipe counts as is that card's
-pub swiped-card : (g : Given) (amount clock : ℕ) (t j : List ℕ) (s : ℕ) (u k : List ℕ) → Swipes g amount clock t j (Serial s) u k → (p : Payer) × (cardRule g ≡ gives p)
+pub swiped-card : (g : Given) (amount clock : ℕ) (t j : List ℕ) (s : ℕ) (u k : List ℕ) → Swipes g amount clock t j (Serial s) u k
+    → (p : Payer) × (cardRule g ≡ gives p)
 swiped-card g amount clock t j s u k w = go (swipe-comes-to g amount clock t j (Serial s) u k w)
   where
     go : ComesTo g amount clock j (Serial s) k → (p : Payer) × (cardRule g ≡ gives p)

@@ -34,13 +34,15 @@ module _ (j k : List ℕ) (s : SameButClocks j k) where
   zeros-same : (x : ℕ) → Zeros j (32 * x) (32 * x + 32) → Zeros k (32 * x) (32 * x + 32)
   zeros-same x z i l h =
       let q : i / 32 ≡ x = omega arith in
-      let none : isRecord (stateAt j (32 * (i / 32))) ≡ false = ap (λ (y : ℕ). isRecord (stateAt j (32 * y))) q ∙ ap isRecord (z (32 * x + 15) (omega arith) (omega arith)) ∙ free-no-record in
+      let state : stateAt j (32 * (i / 32)) ≡ 0 = ap (λ (y : ℕ). stateAt j (32 * y)) q ∙ z (32 * x + 15) (omega arith) (omega arith) in
+      let none : isRecord (stateAt j (32 * (i / 32))) ≡ false = ap isRecord state ∙ free-no-record in
       sym (s .bytes i (ap (λ (t : Bool). within 4 7 (i % 32) && t) none ∙ and-false (within 4 7 (i % 32)))) ∙ z i l h
 
   good-too : (x t : ℕ) → Good j (32 * x) t → Good k (32 * x) t
   good-too x t g =
       let e : stateAt k (32 * x) ≡ stateAt j (32 * x) = sym (slot-state j k s x) in
-      good-same j k (32 * x) (32 * x) t (λ i m _ c. sym (slot-byte j k s x i m c)) (ap isRecord e ∙ g .state) (ap kept e) (ap (λ (y : ℕ). lengthFits y (lengthAt j (32 * x))) e) g
+      good-same j k (32 * x) (32 * x) t (λ i m _ c. sym (slot-byte j k s x i m c)) (ap isRecord e ∙ g .state) (ap kept e)
+      (ap (λ (y : ℕ). lengthFits y (lengthAt j (32 * x))) e) g
 
   belongs-same : (x : ℕ) → Belongs j x → Belongs k x
   belongs-same x b = record {
@@ -73,8 +75,10 @@ module _ (j k : List ℕ) (s : SameButClocks j k) where
 
   -- "No call compares clocks", the survey neither
   pub clock-survey : (out : List ℕ) (r : Surveyed) (l : List ℕ) → Surveys j out r l → Surveys k out r l
-  clock-survey out r l w = record {
-    view = w .view;
-    is = clock-view j k s (w .view) (w .is);
-    so = (w .so .0 ∙ survey-same (w .view) (length out), subst (λ (o : Outcome Bool). Fills k out o l) (survey-same (w .view) (length out)) (fills-same out _ l (w .so .1)));
-  }
+  clock-survey out r l w =
+      let e = survey-same (w .view) (length out) in
+      record {
+        view = w .view;
+        is = clock-view j k s (w .view) (w .is);
+        so = (w .so .0 ∙ e, subst (λ (o : Outcome Bool). Fills k out o l) e (fills-same out _ l (w .so .1)));
+      }

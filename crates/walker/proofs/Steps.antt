@@ -30,7 +30,8 @@ unfolding firstAbove heldAfter firstOf
 none-above j b s h = let z : b - max (lowOf j b) s ≡ 0 = omega arith in sym (ap (λ (m : ℕ). firstOf (heldAfter j (slotsOf j) (max (lowOf j b) s) m)) z)
 
 -- the tally of what stands above has its first
-pub first-is : (j : List ℕ) (b s low top : ℕ) (t : Tallied) → low ≡ b - slotsOf j → (low ≤ top) × (s ≤ top) × (top - low ≡ s - low) → Tallies t (heldAfter j (slotsOf j) top (b - top))
+pub first-is : (j : List ℕ) (b s low top : ℕ) (t : Tallied) → low ≡ b - slotsOf j → (low ≤ top) × (s ≤ top) × (top - low ≡ s - low)
+    → Tallies t (heldAfter j (slotsOf j) top (b - top))
     → t .first ≡ firstAbove j b s
 unfolding firstAbove
 first-is j b s low top t e h u =
