@@ -4,8 +4,8 @@
  * way to a call and back costs.
  *
  * Run by bench/run under bench/count.c. Standard output: `row LINE NAME SIZE
- * DEEPEST...`, and `input NAME SIZE TEXT`; the three sides' counts have the
- * numbers 3 * LINE + 1, + 2 and + 3.
+ * CALLS`, then of each side its answer and its deepest stack, and `input NAME SIZE
+ * TEXT`; the three sides' counts have the numbers 3 * LINE + 1, + 2 and + 3.
  */
 #include <stdio.h>
 #include <string.h>
@@ -21,6 +21,7 @@ static struct made made;
 static struct lent lent;
 static uint8_t space[BUFFERS][LONGEST];
 static int line;
+static unsigned held; /* records, in a row that is a whole walk */
 
 /* ---- One row ------------------------------------------------------------ */
 
@@ -80,15 +81,21 @@ static int deepest(door *call)
     return STACK - at;
 }
 
-static void row(const char *name, unsigned size)
+/* A row: what each side does is one call, or as many as a whole walk takes. */
+static void measure(const char *name, unsigned size, unsigned calls, door *const does[3])
 {
-    printf("row %d %s %u", line, name, size);
+    printf("row %d %s %u %u", line, name, size, calls);
     for (int s = 0; s < 3; s++) {
-        uint32_t answer = count(sides[s], 3 * line + s + 1);
-        printf(" %u %d", answer, deepest(sides[s]));
+        uint32_t answer = count(does[s], 3 * line + s + 1);
+        printf(" %u %d", answer, deepest(does[s]));
     }
     printf("\n");
     line++;
+}
+
+static void row(const char *name, unsigned size)
+{
+    measure(name, size, 1, sides);
 }
 
 /* ---- Inputs ------------------------------------------------------------- */
@@ -181,13 +188,13 @@ static void range_row(unsigned records)
     row("range_find", records);
 }
 
-/* A journal that has wrapped, its older half released, its newer half held. */
-static uint32_t lend_journal(int buffer, unsigned slots)
+/* A journal that has wrapped, its newest records held, the others released. */
+static uint32_t lend_journal(int buffer, unsigned slots, unsigned newer)
 {
     uint32_t newest = slots + slots / 2;
     made.r.n[buffer] = (size_t)slots * SLOT;
     for (uint32_t s = newest - slots + 1; s <= newest; s++) {
-        struct record r = {s, 1000 + s, 250, 7, 16, s > newest - slots / 2 ? 1 : 2};
+        struct record r = {s, 1000 + s, 250, 7, 16, s > newest - newer ? 1 : 2};
         put_record(made.bytes[buffer] + (size_t)((s - 1) % slots) * SLOT, &r,
                    (const uint8_t *)"4111111111");
     }
@@ -202,8 +209,8 @@ static void print_journal(const char *name, unsigned slots, const char *beside)
 static void journal_row(const char *name, enum call call, unsigned slots)
 {
     start(call);
-    uint32_t newest = lend_journal(0, slots);
-    made.r.serial = call == JOURNAL_WALK ? newest - slots / 2 : newest;
+    uint32_t newest = lend_journal(0, slots, slots / 2), before = newest - slots / 2;
+    made.r.serial = call == JOURNAL_WALK ? before : call == WALK_STEP ? before + 1 : newest;
     if (call == JOURNAL_BOOK)
         lend_text(1, pan);
     else if (call == JOURNAL_SURVEY)
@@ -213,13 +220,66 @@ static void journal_row(const char *name, enum call call, unsigned slots)
     row(name, slots);
 }
 
+/* A whole walk by gw_journal_walk: a call for each held record, and one that says done. */
+static uint32_t walk_anew(door *call, const struct request *r, struct lent *l)
+{
+    struct request step = *r;
+    uint32_t answer = 0;
+    step.call = JOURNAL_WALK;
+    for (unsigned i = 0; i <= held; i++, step.serial = l->word[0])
+        answer |= call(&step, l);
+    return answer | l->word[0];
+}
+
+/* A whole walk by gw_walk_start, and gw_walk_step for each held record. */
+static uint32_t walk_once(door *call, const struct request *r, struct lent *l)
+{
+    struct request step = *r;
+    step.call = WALK_START;
+    uint32_t answer = call(&step, l);
+    step.call = WALK_STEP;
+    step.serial = l->word[0];
+    for (unsigned i = 0; i < held; i++, step.serial = l->word[1])
+        answer |= call(&step, l);
+    return answer | l->word[1];
+}
+
+#define WALK(name, side, walk)                                       \
+    static uint32_t name(const struct request *r, struct lent *l)    \
+    {                                                                \
+        return walk(side, r, l);                                     \
+    }
+WALK(library_anew, library_call, walk_anew)
+WALK(reference_anew, reference_call, walk_anew)
+WALK(nothing_anew, nothing_call, walk_anew)
+WALK(library_once, library_call, walk_once)
+WALK(reference_once, reference_call, walk_once)
+WALK(nothing_once, nothing_call, walk_once)
+
+/* Whole walks over a journal that is full. */
+static void walk_rows(unsigned slots)
+{
+    static door *const anew[3] = {library_anew, reference_anew, nothing_anew};
+    static door *const once[3] = {library_once, reference_once, nothing_once};
+    start(JOURNAL_WALK);
+    memset(&lent, 0, sizeof lent);
+    lend_journal(0, slots, slots);
+    held = slots;
+    printf("input walk.anew %u all held: gw_journal_walk until it says done\n", slots);
+    measure("walk.anew", slots, slots + 1, anew);
+    memset(&lent, 0, sizeof lent);
+    printf("input walk.once %u all held: gw_walk_start, and gw_walk_step until it says done\n",
+           slots);
+    measure("walk.once", slots, slots + 1, once);
+}
+
 static void swipe_row(const char *name, bool reversed, unsigned slots)
 {
     start(SWIPE);
     lend_track(reversed);
     lend_table(2, 16);
     made.r.n[3] = 37;
-    lend_journal(4, slots);
+    lend_journal(4, slots, slots / 2);
     print_journal(name, slots, "; the full track, the 16 records, amount 250");
     row(name, slots);
 }
@@ -231,6 +291,8 @@ static void journal_rows(unsigned slots)
     journal_row("journal_show", JOURNAL_SHOW, slots);
     journal_row("journal_tell", JOURNAL_TELL, slots);
     journal_row("journal_walk", JOURNAL_WALK, slots);
+    journal_row("walk_start", WALK_START, slots);
+    journal_row("walk_step", WALK_STEP, slots);
     journal_row("journal_survey", JOURNAL_SURVEY, slots);
     swipe_row("swipe", false, slots);
     swipe_row("swipe.reversed", true, slots);
@@ -247,5 +309,7 @@ int main(void)
         range_row(records[i]);
     for (int i = 0; i < 5; i++)
         journal_rows(slots[i]);
+    walk_rows(16);
+    walk_rows(2048);
     return 0;
 }

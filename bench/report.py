@@ -29,15 +29,15 @@ COLOURS = ["#1b6ca8", "#b5651d", "#2e8b57", "#8a2be2", "#c0392b"]
 
 
 class Row:
-    """One call on one input: instructions and stack bytes of each side."""
+    """One call, or a whole walk, on one input: instructions and stack bytes of each side."""
 
     def __init__(self, words, counts):
-        line, self.name, self.size = int(words[1]), words[2], int(words[3])
-        answers, depths = words[4::2], [int(word) for word in words[5::2]]
+        line, self.name, self.size, calls = int(words[1]), words[2], int(words[3]), int(words[4])
+        answers, depths = words[5::2], [int(word) for word in words[6::2]]
         if answers != ["0", "0", "0"]:
             sys.exit(f"{self.name}: a call was refused: {answers}")
         total = [counts[3 * line + side + 1] for side in range(3)]
-        self.cost = [total[side] - total[NOTHING] + EMPTY_CALL for side in (LIBRARY, PLAIN)]
+        self.cost = [total[side] - total[NOTHING] + EMPTY_CALL * calls for side in (LIBRARY, PLAIN)]
         self.stack = [depths[side] - depths[NOTHING] for side in (LIBRARY, PLAIN)]
 
     def label(self):
@@ -193,7 +193,8 @@ qemu-user (bench/count.c): the same number on every machine, and on every run. A
 from its first instruction to its return, what it calls included; what the program around it
 spends is measured by calls that do nothing, and taken off. Beside the library stands plain C
 for the same rules, tests/reference.c at -O3, in the same program on the same inputs. Instructions
-are not time: a division counts as one, and neither side has one by a variable inside a loop.
+are not time: a division counts as one. Of loops only the survey's has a division by a variable,
+one for each slot, on both sides; a step of a walk has two.
 """
 
 

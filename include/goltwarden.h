@@ -20,14 +20,40 @@
  * - A lent buffer is a pointer and a count of bytes; that many bytes can be
  *   read, and written where the pointer isn't const. Any count is allowed,
  *   and 0 too.
- * - No pointer is NULL, that of an empty buffer neither (any address will do).
- *   Pointers to numbers are aligned as their type asks.
+ * - No pointer is NULL. For a buffer of 0 bytes pass any other address: nothing
+ *   is read or written there. Pointers to numbers are aligned as their type asks.
  * - What a call writes (a buffer or number whose pointer isn't const) overlaps
  *   nothing else lent to that call.
  * - No other thread writes what a call reads, or touches what it writes, while
  *   it is under way. So at most one call that writes a journal is under way on
  *   it, and none that reads it beside that one.
  * - A journal's bytes are kept from call to call as the calls left them.
+ *
+ * WHERE THE POWER MAY FAIL
+ *
+ * The calls promise which bytes a journal has when they return, and no order in
+ * which they write them: a compiler may join and move stores. So don't lend a
+ * call the memory that outlives the power. Lend it a working copy, copy what
+ * changed to that memory afterwards, in this order, and answer nobody before all
+ * of it is there:
+ *
+ * - After a booking, by gw_journal_book or gw_swipe: the 32 bytes of its slot,
+ *   which begins at 32 * ((serial - 1) % slots). First bytes 16 to 31, then 0 to
+ *   15, by rising address, so that the state byte, 15, comes last.
+ * - After a release: the state byte (15) of each slot that became released, by
+ *   rising serial, and no other byte.
+ *
+ * Copied in this order, the bytes may be cut off after any one of them:
+ *
+ * - A booking cut short: every slot that was held is held as it was, byte for
+ *   byte, and no other slot is. The payment under way wasn't taken. The journal
+ *   may then not be well formed, and calls answer 16: gw_journal_survey still
+ *   says which slots are held. Memory that writes 32 aligned bytes at once never
+ *   shows this; a journal of one slot needs such memory, since there a cut within
+ *   the four bytes of a serial can leave a lower one, and serials repeat.
+ * - A release cut short is the release of a lower serial, and well formed.
+ *
+ * examples/terminal.c keeps its journal so.
  *
  * WORDS
  *
@@ -46,7 +72,7 @@ extern "C" {
 #endif
 
 /* The version of this interface, as gw_version() answers it. */
-#define GW_VERSION 1
+#define GW_VERSION 2
 
 /* The numbered reasons. */
 enum gw_reason {
@@ -206,13 +232,13 @@ uint32_t gw_creditor_make(const uint8_t *body, size_t body_n, uint32_t *pair);
  * stands in slot (s - 1) mod N with state 1 or 2, amount above 0, length 13 to
  * 19, digits as digits, zeros as zeros; all other slots are all zero; and no
  * released record has a higher serial than a held one. Clock and label may be
- * anything. No call compares clocks. Each call below checks the whole journal
- * first, and refuses with 16 one that isn't well formed. */
+ * anything. No call compares clocks. Each call below but gw_walk_step and
+ * gw_journal_survey checks the whole journal first, and refuses with 16 one that
+ * isn't well formed. */
 
 /* Book a payment. The serial after the newest (1 if none) is written whole into
  * its slot as held, and *serial receives it; a released record there is
  * overwritten. No other byte changes. The label and the clock may be anything.
- * Of the record the state byte is written last.
  * Order: 16; 2 unless the PAN has 13 to 19 bytes; 3 unless all digits; 4 unless
  * it passes Luhn; 17 if the amount is 0; 19 if the newest serial is
  * 4,294,967,295; 18 if all slots are held. */
@@ -221,7 +247,7 @@ uint32_t gw_journal_book(uint8_t *journal, size_t journal_n,
                          uint16_t label, uint32_t amount, uint32_t clock,
                          uint32_t *serial);
 
-/* Release every held record up to a serial: state byte only, by rising serial.
+/* Release every held record up to a serial: of each the state byte alone changes.
  * *count and *sum receive how many became released by this call and the sum of
  * their amounts; perhaps none: 0 and 0.
  * Order: 16; 20 if the serial is 0 or above the newest. */
@@ -247,10 +273,28 @@ uint32_t gw_journal_tell(const uint8_t *journal, size_t journal_n,
  * `after` 0, and go on with the serial last received. The journal is checked
  * anew at each step, so that the walk stays right if the journal changed in
  * between; a whole walk therefore costs as many checks as there are held
- * records, and one more.
+ * records, and one more. gw_walk_start and gw_walk_step cost one.
  * Order: 16. */
 uint32_t gw_journal_walk(const uint8_t *journal, size_t journal_n, uint32_t after,
                          uint32_t *serial, uint32_t *at);
+
+/* Walk over the held records at the cost of one check, two calls. The start
+ * checks the whole journal: *serial receives the oldest held serial, 0 for none
+ * held, and then there is nothing to walk over.
+ * Order: 16. */
+uint32_t gw_walk_start(const uint8_t *journal, size_t journal_n, uint32_t *serial);
+
+/* A step takes one held record: *at receives its byte offset, *next the serial to
+ * go on with, 0 when the walk is done. From a start on, on a journal that stays,
+ * the steps take each held record once, by rising serial.
+ * A step looks at two slots and checks nothing else, so what it says is right for
+ * the journal as it stands, whatever its bytes: with N the whole slots of the
+ * journal, a record of a serial stands held in its slot when the serial isn't 0,
+ * N is 1 to 2,048, and slot (serial - 1) mod N has that serial and state 1; *next
+ * is serial + 1 where the record of that serial stands held in its slot too.
+ * Order: 20 unless a record of this serial stands held in its slot. */
+uint32_t gw_walk_step(const uint8_t *journal, size_t journal_n, uint32_t serial,
+                      uint32_t *at, uint32_t *next);
 
 /* Survey a journal slot by slot, for the technician who meets 16. The output's
  * first bytes receive one byte a slot (enum gw_slot): 0 free (all zero bytes), 1

@@ -656,7 +656,8 @@ static void make_rest_of_journal_call(struct made *m, uint32_t newest)
 
 static void make_journal_call(struct made *m)
 {
-    uint32_t newest = make_journal(m->bytes[0], &m->r.n[0], m->r.call == JOURNAL_SURVEY ? 2 : 8);
+    bool unchecked = m->r.call == JOURNAL_SURVEY || m->r.call == WALK_STEP;
+    uint32_t newest = make_journal(m->bytes[0], &m->r.n[0], unchecked ? 2 : 8);
     make_rest_of_journal_call(m, newest);
 }
 
@@ -740,7 +741,7 @@ void make_next_request(struct made *m, const uint8_t *journal, size_t journal_n)
 {
     static const enum call steps[] = {
         JOURNAL_BOOK, JOURNAL_BOOK, JOURNAL_BOOK, SWIPE, SWIPE, JOURNAL_RELEASE, JOURNAL_RELEASE,
-        JOURNAL_SHOW, JOURNAL_TELL, JOURNAL_WALK, JOURNAL_SURVEY,
+        JOURNAL_SHOW, JOURNAL_TELL, JOURNAL_WALK, WALK_START, WALK_STEP, JOURNAL_SURVEY,
     };
     memset(&m->r, 0, sizeof m->r);
     m->r.call = steps[below(sizeof steps / sizeof steps[0])];

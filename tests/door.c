@@ -42,6 +42,10 @@ static uint32_t journal_call(const struct request *r, struct lent *l)
         return gw_journal_tell(b[0], n[0], &w[0], &l->sum, &w[1], &w[2]);
     case JOURNAL_WALK:
         return gw_journal_walk(b[0], n[0], r->serial, &w[0], &w[1]);
+    case WALK_START:
+        return gw_walk_start(b[0], n[0], &w[0]);
+    case WALK_STEP:
+        return gw_walk_step(b[0], n[0], r->serial, &w[0], &w[1]);
     case JOURNAL_SURVEY:
         return gw_journal_survey(b[0], n[0], b[1], n[1], &w[0]);
     default:

@@ -3,13 +3,14 @@
 #include "cases.h"
 #include "reached.h"
 
-enum { REASONS = 21, BITS = 4100 };
+/* The numbers 0 to 20, and one place for any other, which no call may answer. */
+enum { REASONS = 21, OTHER = REASONS, NUMBERS, BITS = 4100 };
 
 const char *const call_names[CALLS] = {
     "version", "luhn_test", "luhn_make", "pan_mask", "range_find", "track2_read", "layout_read",
     "iban_test", "iban_make", "creditor_test", "creditor_make",
     "journal_book", "journal_release", "journal_show", "journal_tell", "journal_walk",
-    "journal_survey", "swipe",
+    "walk_start", "walk_step", "journal_survey", "swipe",
 };
 
 /* The reasons that document 01 gives for each call, a bit for each number. */
@@ -23,7 +24,8 @@ static const uint32_t call_reasons[CALLS] = {
     [CREDITOR_TEST] = R(2) | R(3) | R(4) | R(6), [CREDITOR_MAKE] = R(2) | R(3),
     [JOURNAL_BOOK] = R(2) | R(3) | R(4) | R(16) | R(17) | R(18) | R(19),
     [JOURNAL_RELEASE] = R(16) | R(20), [JOURNAL_SHOW] = R(16) | R(20), [JOURNAL_TELL] = R(16),
-    [JOURNAL_WALK] = R(16), [JOURNAL_SURVEY] = R(1) | R(16),
+    [JOURNAL_WALK] = R(16), [WALK_START] = R(16), [WALK_STEP] = R(20),
+    [JOURNAL_SURVEY] = R(1) | R(16),
     [SWIPE] = R(1) | R(4) | R(6) | READING | R(14) | R(15) | R(16) | R(17) | R(18) | R(19),
 };
 
@@ -50,20 +52,22 @@ static const struct lengths call_lengths[] = {
     {JOURNAL_SHOW, 0, 0, 65, 1}, {JOURNAL_SHOW, 0, 65504, 65568, 32},
     {JOURNAL_TELL, 0, 0, 65, 1}, {JOURNAL_TELL, 0, 65504, 65568, 32},
     {JOURNAL_WALK, 0, 0, 65, 1}, {JOURNAL_WALK, 0, 65504, 65568, 32},
+    {WALK_START, 0, 0, 65, 1}, {WALK_START, 0, 65504, 65568, 32},
+    {WALK_STEP, 0, 0, 65, 1}, {WALK_STEP, 0, 65504, 65568, 32},
     {JOURNAL_SURVEY, 0, 0, 65, 1}, {JOURNAL_SURVEY, 0, 65504, 65568, 32},
     {JOURNAL_SURVEY, 1, 0, 42, 1}, {JOURNAL_SURVEY, 1, 2047, 2049, 1},
     {SWIPE, 1, 0, 66, 1}, {SWIPE, 1, 65520, 65552, 16}, {SWIPE, 2, 65535, 65537, 1},
     {SWIPE, 3, 0, 40, 1}, {SWIPE, 4, 0, 65, 1}, {SWIPE, 4, 65504, 65568, 32},
 };
 
-static uint64_t reached[CALLS][REASONS];
+static uint64_t reached[CALLS][NUMBERS];
 static bool had_length[CALLS][BUFFERS][LONGEST];
 static bool had_bits[CALLS][BITS];
 
 void note_reached(const struct request *r, uint32_t answer)
 {
-    if (r->call != VERSION && answer < REASONS)
-        reached[r->call][answer]++;
+    if (r->call != VERSION)
+        reached[r->call][answer < REASONS ? answer : OTHER]++;
     for (int b = 0; b < BUFFERS; b++)
         had_length[r->call][b][r->n[b]] = true;
     if (r->bits < BITS)
@@ -75,11 +79,21 @@ static bool expected(enum call call, int number)
     return number == 0 || call_reasons[call] & R(number);
 }
 
+/* One number that a call answers, or may not answer. */
+static bool number_fits(enum call call, int n)
+{
+    if (expected(call, n) == (reached[call][n] > 0))
+        return true;
+    printf("%s: %s%d %s\n", call_names[call], n == OTHER ? "a number from " : "", n,
+           expected(call, n) ? "never reached" : "isn't among its answers");
+    return false;
+}
+
 static uint64_t print_call(enum call call)
 {
     uint64_t calls = 0;
     printf("%-16s", call_names[call]);
-    for (int n = 0; n < REASONS; n++) {
+    for (int n = 0; n < NUMBERS; n++) {
         calls += reached[call][n];
         if (expected(call, n))
             printf(" %d:%" PRIu64, n, reached[call][n]);
@@ -113,13 +127,8 @@ bool refusals_reached(void)
 {
     bool all = true;
     for (int call = VERSION + 1; call < CALLS; call++)
-        for (int n = 0; n < REASONS; n++) {
-            if (expected(call, n) == (reached[call][n] > 0))
-                continue;
-            printf("%s: %d %s\n", call_names[call], n,
-                   expected(call, n) ? "never reached" : "isn't among its refusals");
-            all = false;
-        }
+        for (int n = 0; n < NUMBERS; n++)
+            all = number_fits(call, n) && all;
     return all;
 }
 

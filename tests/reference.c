@@ -20,7 +20,7 @@
 
 uint32_t gw_version(void)
 {
-    return 1;
+    return 2;
 }
 
 /* ---- Bytes and numbers -------------------------------------------------- */
@@ -767,6 +767,39 @@ uint32_t gw_journal_walk(const uint8_t *journal, size_t journal_n, uint32_t afte
     uint32_t next = done ? 0 : after < first_held(&v) ? first_held(&v) : after + 1;
     *serial = next;
     *at = done ? 0 : slot_of(&v, next) * SLOT;
+    return 0;
+}
+
+uint32_t gw_walk_start(const uint8_t *journal, size_t journal_n, uint32_t *serial)
+{
+    struct view v;
+    if (!look(journal, journal_n, &v))
+        return 16;
+    *serial = v.held ? first_held(&v) : SLIP(48, 0, v.b);
+    return 0;
+}
+
+/* A record of this serial stands held in its slot, which begins at *at. */
+static bool stands_held(const uint8_t *journal, size_t n, uint32_t serial, uint32_t *at)
+{
+    size_t slots = n / SLOT;
+    if (serial == 0 || !within(1, 2048, slots))
+        return false;
+    *at = (uint32_t)((serial - 1) % slots * SLOT);
+    return u32_at(journal + *at) == serial && journal[*at + STATE] == HELD;
+}
+
+uint32_t gw_walk_step(const uint8_t *journal, size_t journal_n, uint32_t serial,
+                      uint32_t *at, uint32_t *next)
+{
+    uint32_t here = 0, behind = 0;
+    if (WRONG == 50)
+        *next = 0; /* a number changed, though the call may refuse */
+    if (!stands_held(journal, journal_n, serial, &here))
+        return 20;
+    bool more = stands_held(journal, journal_n, serial + 1, &behind); /* none behind the last */
+    *at = here;
+    *next = SLIP(49, more, true) ? serial + 1 : 0;
     return 0;
 }
 

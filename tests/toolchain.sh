@@ -41,7 +41,7 @@ find_library() {
     case ${LIBRARY:-} in
     self)
         compile tests/reference.c self.o -O3
-        LIBRARY=self.o
+        LIBRARY=$OUT/self.o
         ;;
     '')
         tests/needs rt || exit 1

@@ -131,6 +131,38 @@ static void journal(void)
     expect("at the last serial", gw_journal_book(slot, 32, pan, 16, 7, 250, 0, &serial), 19);
 }
 
+/* A step of the walk that checks once: the record's offset, and the serial to go on with. */
+static void step(const uint8_t *slots, uint32_t serial, uint32_t at, uint32_t next)
+{
+    uint32_t got[2] = {99, 99};
+    expect("a step", gw_walk_step(slots, 96, serial, &got[0], &got[1]), 0);
+    expect("a step's offset", got[0], at);
+    expect("the serial after", got[1], next);
+}
+
+/* Three slots, four payments, two released: the walk from the oldest held to the newest. */
+static void walk(void)
+{
+    uint8_t slots[96] = {0};
+    uint32_t serial = 0, at = 99, next = 99, count;
+    uint64_t sum;
+    for (int i = 0; i < 4; i++) {
+        gw_journal_book(slots, 96, bytes("4111111111111111"), 16, 7, 250, 0, &serial);
+        gw_journal_release(slots, 96, i < 2 ? (uint32_t)i + 1 : 1, &count, &sum);
+    }
+    expect("the walk's start", gw_walk_start(slots, 96, &serial), 0);
+    expect("the oldest held", serial, 3);
+    step(slots, 3, 64, 4);
+    step(slots, 4, 0, 0);
+    expect("a released one", gw_walk_step(slots, 96, 2, &at, &next), 20);
+    expect("none such", gw_walk_step(slots, 96, 5, &at, &next), 20);
+    expect("serial 0", gw_walk_step(slots, 96, 0, &at, &next), 20);
+    slots[32] ^= 1; /* the released one's serial */
+    expect("a malformed journal", gw_walk_start(slots, 96, &serial), 16);
+    step(slots, 3, 64, 4);
+    expect("a refusal's numbers", at == 99 && next == 99 && serial == 3, 1);
+}
+
 int main(void)
 {
     expect("version", gw_version(), GW_VERSION);
@@ -139,6 +171,7 @@ int main(void)
     long_tracks();
     masks();
     journal();
+    walk();
     printf("worked cases: %s\n", wrong ? "WRONG" : "as document 01 has them");
     return wrong ? 1 : 0;
 }

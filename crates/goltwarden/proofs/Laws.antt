@@ -10,7 +10,7 @@ use Rattle.journal.proofs.Surveys.{one-survey}
 use Rattle.swipe.specs.Swipe.{Given}
 use Rattle.swipe.proofs.Laws as swipe
 use Rattle.goltwarden.specs.Hands.{Hands, HandsOn}
-use Rattle.goltwarden.specs.Calls.{VersionIs, LuhnTests, LuhnMakes, PanMasks, RangeFinds, Track2Reads, LayoutReads, IbanTests, IbanMakes, CreditorTests, CreditorMakes, JournalBooks, JournalReleases, JournalShows, JournalTells, JournalWalks, JournalSurveys, Swipes}
+use Rattle.goltwarden.specs.Calls.{VersionIs, LuhnTests, LuhnMakes, PanMasks, RangeFinds, Track2Reads, LayoutReads, IbanTests, IbanMakes, CreditorTests, CreditorMakes, JournalBooks, JournalReleases, JournalShows, JournalTells, JournalWalks, WalkStarts, WalkSteps, JournalSurveys, Swipes}
 use Rattle.goltwarden.proofs.Handed.{outcome-is}
 
 -- ---- the shapes
@@ -102,6 +102,15 @@ journal-tell-one j x r q y z f g = hands-on-one f g (one-telling j _ _ (f .allow
 pub journal-walk-one : (j : List ℕ) (above : ℕ) (x : ℕ × ℕ) (r q : ℕ) (y z : ℕ × ℕ)
     → JournalWalks j above x r y → JournalWalks j above x q z → (r ≡ q) × (y ≡ z)
 journal-walk-one j above x r q y z f g = let w = one-view j f g in hands-one (w .1) (w .2)
+
+-- gw_walk_start
+pub walk-start-one : (j : List ℕ) (x r q y z : ℕ) → WalkStarts j x r y → WalkStarts j x q z → (r ≡ q) × (y ≡ z)
+walk-start-one j x r q y z f g = let w = one-view j f g in hands-one (w .1) (w .2)
+
+-- gw_walk_step
+pub walk-step-one : (j : List ℕ) (serial : ℕ) (x : ℕ × ℕ) (r q : ℕ) (y z : ℕ × ℕ)
+    → WalkSteps j serial x r y → WalkSteps j serial x q z → (r ≡ q) × (y ≡ z)
+walk-step-one j serial x r q y z f g = hands-one f g
 
 -- gw_journal_survey
 pub journal-survey-one : (j out : List ℕ) (x r q y z : ℕ) (k l : List ℕ)

@@ -1,3 +1,4 @@
 pub mod Handed
 pub mod Walked
 pub mod Laws
+pub mod Programs

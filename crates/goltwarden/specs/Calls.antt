@@ -15,14 +15,14 @@ use Rattle.layout.specs.Layout.{layoutRule}
 use Rattle.slots.specs.Views.{Seen}
 use Rattle.journal.specs.Rules.{Books, Releases, Finds, TellsOf, saidBooked, saidReleased, saidShown, saidTold}
 use Rattle.journal.specs.Survey.{Surveys, saidSurveyed}
+use Rattle.walker.specs.Steps.{walkRule, startRule, stepRule}
 use Rattle.swipe.specs.Swipe.{Given, saidSwiped}
 use Rattle.swipe.specs.Swipe as swipe
-use Rattle.goltwarden.specs.Walk.{walkRule, stepOf}
 use Rattle.goltwarden.specs.Values.{tableOf, offsetOf, countsOf, startsOf}
 use Rattle.goltwarden.specs.Hands.{Answers, Hands, HandsOn}
 
 abbrev pub VersionIs : ℕ → Type 0
-VersionIs r = r ≡ 1
+VersionIs r = r ≡ 2
 
 -- ---- Luhn
 
@@ -77,7 +77,13 @@ abbrev pub JournalTells : List ℕ → ℕ × ℕ × ℕ × ℕ → ℕ → ℕ 
 JournalTells j x r y = HandsOn (TellsOf j) saidTold x (λ t. (t .count, t .sum, t .oldest, t .newest)) r y
 
 abbrev pub JournalWalks : List ℕ → ℕ → ℕ × ℕ → ℕ → ℕ × ℕ → Type 0
-JournalWalks j above x r y = Seen j (λ m. Hands (walkRule m j above) x (stepOf j) r y)
+JournalWalks j above x r y = Seen j (λ m. Hands (walkRule m j above) x (λ v. v) r y)
+
+abbrev pub WalkStarts : List ℕ → ℕ → ℕ → ℕ → Type 0
+WalkStarts j x r y = Seen j (λ m. Hands (startRule m j) x (λ v. v) r y)
+
+abbrev pub WalkSteps : List ℕ → ℕ → ℕ × ℕ → ℕ → ℕ × ℕ → Type 0
+WalkSteps j serial x r y = Hands (stepRule j serial) x (λ v. v) r y
 
 abbrev pub JournalSurveys : List ℕ → List ℕ → ℕ → ℕ → ℕ → List ℕ → Type 0
 JournalSurveys j out x r y k = HandsOn (λ q. Surveys j out q k) saidSurveyed x bitN r y

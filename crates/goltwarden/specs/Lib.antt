@@ -1,4 +1,4 @@
-pub mod Walk
 pub mod Values
 pub mod Hands
 pub mod Calls
+pub mod Programs

@@ -1,15 +1,10 @@
-// The journal: gw_journal_book, gw_journal_release, gw_journal_show, gw_journal_tell, gw_journal_walk, gw_journal_survey.
+// The journal: gw_journal_book, gw_journal_release, gw_journal_show, gw_journal_tell, gw_journal_survey.
 use journal::Booked;
 use journal::Released;
 use journal::Shown;
 use journal::Surveyed;
 use journal::Told;
-use slots::Newest;
-ghost use mathlib.Core.Path.{_≡_};
-ghost use Prim.Native.Nat.{_≤_};
-ghost use Rattle.slots.specs.Journal.{slotsOf, Formed};
-ghost use Rattle.goltwarden.specs.Walk.{firstAbove, walkPlace};
-ghost use Rattle.goltwarden.specs.Calls.{JournalBooks, JournalReleases, JournalShows, JournalTells, JournalWalks, JournalSurveys};
+ghost use Rattle.goltwarden.specs.Calls.{JournalBooks, JournalReleases, JournalShows, JournalTells, JournalSurveys};
 
 #[no_mangle]
 pub extern "C" fn gw_journal_book(
@@ -82,47 +77,6 @@ pub extern "C" fn gw_journal_tell(
             0
         }
         Told::Refused(why) => reasons::number(why),
-    }
-}
-
-// The serial of the first held record above s in a journal with newest serial b, 0 for none.
-fn first_above(j: &[u8], b: u32, s: u32) -> u32
-    requires { ⌜ Formed (now j) (slotsOf (now j)) b ⌝ }
-    ensures { λ r. ⌜ r ≡ firstAbove (now (j .entry)) b s ⌝ }
-{
-    if b <= s {
-        return 0;
-    }
-    let n = j.len() / 32;
-    let low = slots::higher(slots::floor_of(n, b), s);
-    let t = journal::inner::tally(j, n, low, b);
-    t.first
-}
-
-// Where the record of serial s begins, 0 for serial 0.
-fn place_or_zero(j: &[u8], s: u32) -> u32
-    requires { ⌜ (1 ≤ slotsOf (now j)) × (slotsOf (now j) ≤ 2048) ⌝ }
-    ensures { λ r. ⌜ r ≡ walkPlace (now (j .entry)) s ⌝ }
-{
-    if s == 0 {
-        return 0;
-    }
-    slots::place_of(j.len() / 32, s) as u32
-}
-
-// One step of a walk: the first held record above a serial; serial 0 and place 0 say done.
-#[no_mangle]
-pub extern "C" fn gw_journal_walk(journal: &[u8], above: u32, serial: &mut u32, at: &mut u32) -> u32
-    ensures { λ r. ⌜ JournalWalks (now (journal .entry)) above (now (serial .entry), now (at .entry)) r (now (serial .exit), now (at .exit)) ⌝ }
-{
-    match slots::newest_of(journal) {
-        Newest::Malformed => 16,
-        Newest::Is(b) => {
-            let s = first_above(journal, b, above);
-            *serial = s;
-            *at = place_or_zero(journal, s);
-            0
-        }
     }
 }
 

@@ -6,3 +6,4 @@ mod digits;
 mod journals;
 mod stripe;
 mod swipes;
+mod walks;

@@ -1,4 +1,5 @@
 pub mod Views
+pub mod Slots
 pub mod Swipes
 pub mod Account
 pub mod Demand

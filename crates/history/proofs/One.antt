@@ -5,10 +5,11 @@ use mathlib.Core.List.{List, _∷_, map}
 use Rattle.reasons.specs.Reasons.{Outcome}
 use Rattle.slots.proofs.Views.{one-view}
 use Rattle.journal.specs.Rules.{showRule}
-use Rattle.journal.proofs.Laws.{one-booking, one-release, one-telling, one-number}
+use Rattle.journal.proofs.Laws.{one-booking, one-release, one-finding, one-telling, one-number}
+use Rattle.journal.proofs.Surveys.{one-survey}
 use Rattle.swipe.proofs.Laws.{swipe-one}
 use Rattle.walker.specs.Walk.{heldRule}
-use Rattle.history.specs.History.{Call, book, swipe, release, reads, Question, show, showNumber, tell, walkStart, walkNumber, walkRecord, walkOn, aside, AnswerTo, ReplyTo, Replies, Part, Does, Done, Run, no-more, next, SameCalls, no-calls, same-call}
+use Rattle.history.specs.History.{Call, book, swipe, release, reads, Question, find, show, showNumber, tell, survey, walkStart, walkNumber, walkRecord, walkOn, walkAbove, walkFirst, walkStep, aside, AnswerTo, ReplyTo, Replies, Part, Does, Done, Run, no-more, next, SameCalls, no-calls, same-call}
 use Rattle.history.specs.declared.Totals.{Totals}
 use Rattle.history.specs.declared.Replayed.{Replayed}
 use Rattle.history.specs.declared.Replayed.the-variants.{Played}
@@ -20,13 +21,18 @@ part-one j o p q (the-part x y) (the-part u v) = λ i. record { at = (x ∙ sym 
 part-one j o p q (no-part x y) (no-part u v) = λ i. record { at = (x ∙ sym u) i; bytes = (y ∙ sym v) i }
 
 one-reply : (j : List ℕ) (n : Question) (a d : ReplyTo n) → Replies j n a → Replies j n d → a ≡ d
+one-reply j (find s) a d p q = one-finding j s a d p q
 one-reply j (show s) a d p q = let w = one-view j (shown-part j s a p) (shown-part j s d q) in part-one j (showRule (w .0) j s) a d (w .1) (w .2)
 one-reply j (showNumber s) a d p q = one-number j s a d p q
 one-reply j tell a d p q = one-telling j a d p q
+one-reply j (survey t) a d p q = let w = one-survey j t (a .says) (d .says) (a .states) (d .states) p q in λ i. record { says = w .0 i; states = w .1 i }
 one-reply j walkStart a d p q = let w = one-view j p q in w .1 ∙ sym (w .2)
 one-reply j walkNumber a d p q = let w = one-view j p q in w .1 ∙ sym (w .2)
 one-reply j (walkRecord s) a d p q = part-one j (heldRule j s) a d (walked-part j s a p) (walked-part j s d q)
 one-reply j (walkOn s) a d p q = p ∙ sym q
+one-reply j (walkAbove s) a d p q = let w = one-view j p q in w .1 ∙ sym (w .2)
+one-reply j walkFirst a d p q = let w = one-view j p q in w .1 ∙ sym (w .2)
+one-reply j (walkStep s) a d p q = p ∙ sym q
 
 -- any two outcomes that a call's promise allows are equal
 pub one-outcome : (j : List ℕ) (t : ℕ) (c : Call) (a d : AnswerTo c) (l m : List ℕ) → Does j t c a l → Does j t c d m → (a ≡ d) × (l ≡ m)

@@ -1,5 +1,5 @@
 -- Two runs over the same calls at any clock readings: what one call does on journals that differ in clocks alone. Assumes nothing.
-use Prim.Native.Nat.{ℕ, min, _+_, _-_, _*_, _/_, _%_}
+use Prim.Native.Nat.{ℕ, zero, suc, min, max, _+_, _-_, _/_, _%_}
 use mathlib.Core.Path.{_≡_, refl, sym, ap, _∙_, subst, subst⁻¹}
 use mathlib.Core.Bool.{Bool, not, cond, _&&_}
 use mathlib.Core.List.{List, []}
@@ -8,22 +8,24 @@ use lib.ListN.{length, getD, take, drop, length-take, length-drop}
 use lib.Dec.{eqb}
 use denote.Ref.{RefT}
 use Rattle.text.specs.Bytes.{within}
-use Rattle.text.specs.Numbers.{u32At}
-use Rattle.reasons.specs.Reasons.{Outcome, gives, refuses, demand, after, numberIn}
+use Rattle.reasons.specs.Reasons.{Outcome, gives, refuses, demand, andThen, after, numberIn}
 use Rattle.reasons.proofs.Laws.{passed}
 use Rattle.slots.specs.Record.{isHeld, serialAt}
-use Rattle.slots.proofs.Clocks.{slot-byte, slot-state}
+use Rattle.slots.proofs.Clocks.{slot-state}
 use Rattle.slots.specs.Journal.{SameButClocks, slotsOf, place, stateOf}
 use Rattle.slots.specs.Views.{Seen, formed, newest}
 use Rattle.slots.specs.declared.Newest.{Newest}
-use Rattle.journal.specs.Held.{recordAt, SameRecord}
+use Rattle.journal.specs.Held.{recordAt, SameRecord, heldAfter, lowOf, firstOf}
 use Rattle.journal.specs.Rules.{Shows, the-record, nothing, ShowsOf, showRule, heldIn, Telling}
-use Rattle.journal.proofs.Laws.{booked-one, released-one, told-one}
-use Rattle.journal.proofs.Clocks.{clock-shown, clock-book, clock-release, clock-tell, clock-show, clock-book-bytes, clock-release-bytes}
+use Rattle.journal.proofs.Laws.{booked-one, released-one, told-one, shown-one}
+use Rattle.journal.proofs.Surveys.{one-survey}
+use Rattle.journal.proofs.Clocks.{same-first, clock-held, clock-shown, clock-book, clock-release, clock-tell, clock-show, clock-book-bytes, clock-release-bytes}
 use Rattle.walker.specs.Walk.{heldHere, heldRule, nextOf}
+use Rattle.walker.specs.Steps.{firstAbove, walkPlace, walkRule, startRule, stepRule}
 use Rattle.history.proofs.Views.{both}
+use Rattle.history.proofs.Slots.{clock-serial, clock-survey}
 use Rattle.history.proofs.Swipes.{swipe-twin}
-use Rattle.history.specs.History.{Call, book, swipe, release, reads, Question, show, showNumber, tell, walkStart, walkNumber, walkRecord, walkOn, aside, AnswerTo, ReplyTo, Replies, SameReply, Part, HandsOut, Does, Done, Run, no-more, next, SameCalls, no-calls, same-call, SamePart, SameAnswer, SameOutcomes, no-outcomes, same-outcome}
+use Rattle.history.specs.History.{Call, book, swipe, release, reads, Question, find, show, showNumber, tell, survey, walkStart, walkNumber, walkRecord, walkOn, walkAbove, walkFirst, walkStep, aside, AnswerTo, ReplyTo, Replies, SameReply, Part, HandsOut, Does, Done, Run, no-more, next, SameCalls, no-calls, same-call, SamePart, SameAnswer, SameOutcomes, no-outcomes, same-outcome}
 
 -- ---- a part that was handed out is told by the outcome of its rule
 
@@ -82,18 +84,11 @@ parts-same j k t o p q s e (no-part x y) (no-part u v) =
 -- ---- the walker looks at serials and states
 
 module _ (j k : List ℕ) (s : SameButClocks j k) where
-  clock-serial : (x : ℕ) → serialAt j (32 * x) ≡ serialAt k (32 * x)
-  unfolding u32At
-  clock-serial x = omega (arith, first, slot-byte j k s x 1 (omega arith) refl, slot-byte j k s x 2 (omega arith) refl, slot-byte j k s x 3 (omega arith) refl)
-    where
-      first : getD j (32 * x) 0 ≡ getD k (32 * x) 0
-      first = let e : 32 * x + 0 ≡ 32 * x = omega arith in subst (λ (y : ℕ). getD j y 0 ≡ getD k y 0) e (slot-byte j k s x 0 (omega arith) refl)
-
   clock-here : (t : ℕ) → heldHere j t ≡ heldHere k t
   unfolding heldHere
   clock-here t =
       ap (λ (n : ℕ). within 1 2048 n && (not (eqb t 0) && (eqb (serialAt j (place n t)) t && isHeld (stateOf j n t)))) (ap (λ (x : ℕ). x / 32) (s .size))
-      ∙ (λ i. within 1 2048 (slotsOf k) && (not (eqb t 0) && (eqb (clock-serial ((t - 1) % slotsOf k) i) t && isHeld (slot-state j k s ((t - 1) % slotsOf k) i))))
+      ∙ (λ i. within 1 2048 (slotsOf k) && (not (eqb t 0) && (eqb (clock-serial j k s ((t - 1) % slotsOf k) i) t && isHeld (slot-state j k s ((t - 1) % slotsOf k) i))))
 
   clock-walk : (t : ℕ) → heldRule j t ≡ heldRule k t
   unfolding heldRule
@@ -103,6 +98,30 @@ module _ (j k : List ℕ) (s : SameButClocks j k) where
   unfolding nextOf
   clock-next t = ap (λ (b : Bool). cond (within 1 4294967294 t && b) (t + 1) 0) (clock-here (t + 1))
 
+  clock-above : (b t : ℕ) → firstAbove j b t ≡ firstAbove k b t
+  unfolding firstAbove
+  clock-above b t =
+      same-first _ _ (clock-held j k s (slotsOf j) (max (lowOf j b) t) (b - max (lowOf j b) t))
+      ∙ ap (λ (n : ℕ). firstOf (heldAfter k n (max (b - n) t) (b - max (b - n) t))) (ap (λ (x : ℕ). x / 32) (s .size))
+
+  clock-walk-place : (t : ℕ) → walkPlace j t ≡ walkPlace k t
+  clock-walk-place zero = refl
+  clock-walk-place (suc t) = ap (λ (x : ℕ). place (x / 32) (suc t)) (s .size)
+
+  clock-anew : (m : Newest) (t : ℕ) → walkRule m j t ≡ walkRule m k t
+  unfolding walkRule
+  clock-anew m t =
+      ap (λ (x : ℕ). demand (formed m) 16 (gives (x, walkPlace j x))) (clock-above (newest m) t)
+      ∙ ap (λ (y : ℕ). demand (formed m) 16 (gives (firstAbove k (newest m) t, y))) (clock-walk-place (firstAbove k (newest m) t))
+
+  clock-start : (m : Newest) → startRule m j ≡ startRule m k
+  unfolding startRule
+  clock-start m = ap (λ (o : Outcome Telling). andThen o (λ t. gives (t .oldest))) (clock-tell j k s m)
+
+  clock-step : (t : ℕ) → stepRule j t ≡ stepRule k t
+  unfolding stepRule
+  clock-step t = λ i. andThen (clock-walk t i) (λ at. gives (at, clock-next t i))
+
 -- ---- one call on two journals
 
 module _ (j k : List ℕ) (s : SameButClocks j k) where
@@ -110,18 +129,25 @@ module _ (j k : List ℕ) (s : SameButClocks j k) where
   same-bytes {i} {n} {l} {m} e f w = subst⁻¹ (λ (r : List ℕ). SameButClocks r m) e (subst⁻¹ (λ (r : List ℕ). SameButClocks i r) f w)
 
   replies : (n : Question) (a d : ReplyTo n) → Replies j n a → Replies k n d → SameReply n a d
+  replies (find n) a d p q = let v = both j k s p q in shown-one a d (v .left ∙ clock-show j k s (v .view) n ∙ sym (v .right))
   replies (show n) a d p q =
       let v = both j k s (shown-part j n a p) (shown-part k n d q) in
       parts-same j k n (showRule (v .view) j n) a d s (shown-at (v .view) j n) (v .left) (subst⁻¹ (λ (o : Outcome ℕ). IsPart k o d) (clock-show j k s (v .view) n) (v .right))
   replies (showNumber n) a d p q = let v = both j k s p q in v .left ∙ ap numberIn (clock-show j k s (v .view) n) ∙ sym (v .right)
   replies tell a d p q = let v = both j k s p q in told-one a d (v .left ∙ clock-tell j k s (v .view) ∙ sym (v .right))
+  replies (survey t) a d p q =
+      let w = one-survey k t (a .says) (d .says) (a .states) (d .states) (clock-survey j k s t (a .says) (a .states) p) q in
+      λ i. record { says = w .0 i; states = w .1 i }
   replies walkStart a d p q = let v = both j k s p q in v .left ∙ ap (λ (o : Outcome Telling). after o 0 (λ t. t .oldest)) (clock-tell j k s (v .view)) ∙ sym (v .right)
   replies walkNumber a d p q = let v = both j k s p q in v .left ∙ ap numberIn (clock-tell j k s (v .view)) ∙ sym (v .right)
   replies (walkRecord n) a d p q =
       parts-same j k n (heldRule j n) a d s (walked-at j n) (walked-part j n a p) (subst⁻¹ (λ (o : Outcome ℕ). IsPart k o d) (clock-walk j k s n) (walked-part k n d q))
   replies (walkOn n) a d p q = p ∙ clock-next j k s n ∙ sym q
+  replies (walkAbove n) a d p q = let v = both j k s p q in v .left ∙ clock-anew j k s (v .view) n ∙ sym (v .right)
+  replies walkFirst a d p q = let v = both j k s p q in v .left ∙ clock-start j k s (v .view) ∙ sym (v .right)
+  replies (walkStep n) a d p q = p ∙ clock-step j k s n ∙ sym q
 
-  twin : (t u : ℕ) (c : Call) (a d : AnswerTo c) (l m : List ℕ) → Does j t c a l → Does k u c d m → SameAnswer c a d × SameButClocks l m
+  pub twin : (t u : ℕ) (c : Call) (a d : AnswerTo c) (l m : List ℕ) → Does j t c a l → Does k u c d m → SameAnswer c a d × SameButClocks l m
   twin t u (book pan label amount) a d l m p q =
       let v = both j k s (p .1) (q .1) in (
         booked-one a d (v .left .0 ∙ clock-book j k s (v .view) pan label amount ∙ sym (v .right .0)),

@@ -13,29 +13,40 @@ use Rattle.slots.specs.Record.{record32}
 use Rattle.slots.specs.Journal.{NewestIs, SameButClocks}
 use Rattle.slots.specs.declared.Newest.the-variants.{Is}
 use Rattle.journal.specs.Held.{heldList, sumOf, SameRecord}
-use Rattle.journal.specs.Rules.{Books, Releases, Shows, ShowsOf, NumberOfShow, TellsOf, heldIn}
+use Rattle.journal.specs.Rules.{Books, Releases, Finds, Shows, ShowsOf, NumberOfShow, TellsOf, heldIn}
+use Rattle.journal.specs.Survey.{Surveys}
 use Rattle.journal.specs.declared.Booked.{Booked}
 use Rattle.journal.specs.declared.Booked.the-variants as booking
 use Rattle.journal.specs.declared.Released.{Released}
 use Rattle.journal.specs.declared.Released.the-variants as releasing
+use Rattle.journal.specs.declared.Shown.{Shown}
 use Rattle.journal.specs.declared.Told.{Told}
+use Rattle.journal.specs.declared.Surveyed.{Surveyed}
 use Rattle.walker.specs.Walk.{heldRule, nextOf, StartsAt, StartNumber}
-use Rattle.reasons.specs.Reasons.{Outcome, gives, refuses}
+use Rattle.walker.specs.Steps.{walkRule, startRule, stepRule}
+use Rattle.slots.specs.Views.{Seen}
+use Rattle.reasons.specs.Reasons.{Outcome, after}
 use Rattle.swipe.specs.Swipe.{Given, Payer, cardRule, Swipes}
 use Rattle.swipe.specs.declared.Swiped.{Swiped}
 use Rattle.swipe.specs.declared.Swiped.the-variants as swiping
 
 -- ---- the calls
 
--- the reading calls: show and tell, and the steps of a walker, which starts, gives the record of its serial, and moves on from there
+-- the reading calls: find, show, tell and survey; the steps of a walker, which starts, gives the record of its serial, and moves on from there;
+-- and those of a walk by serials: the first record above one, and a start with steps from serial to serial
 pub data Question : Type 0 where
+  find : (serial : ℕ) → Question
   show : (serial : ℕ) → Question
   showNumber : (serial : ℕ) → Question
   tell : Question
+  survey : (states : List ℕ) → Question
   walkStart : Question
   walkNumber : Question
   walkRecord : (next : ℕ) → Question
   walkOn : (next : ℕ) → Question
+  walkAbove : (serial : ℕ) → Question
+  walkFirst : Question
+  walkStep : (serial : ℕ) → Question
 
 -- a call, with all that it is given but the clock reading and the journal
 pub data Call : Type 0 where
@@ -56,15 +67,25 @@ pub record Swipe : Type 0 where
   pub says : Swiped
   pub scratch : List ℕ
 
+-- what a survey answers, and the bytes of its output afterwards
+pub record Survey : Type 0 where
+  pub says : Surveyed
+  pub states : List ℕ
+
 -- what a call answers
 abbrev pub ReplyTo : Question → Type 0
+ReplyTo (find s) = Shown
 ReplyTo (show s) = Part
 ReplyTo (showNumber s) = ℕ
 ReplyTo tell = Told
+ReplyTo (survey t) = Survey
 ReplyTo walkStart = ℕ
 ReplyTo walkNumber = ℕ
 ReplyTo (walkRecord s) = Part
 ReplyTo (walkOn s) = ℕ
+ReplyTo (walkAbove s) = Outcome (ℕ × ℕ)
+ReplyTo walkFirst = Outcome ℕ
+ReplyTo (walkStep s) = Outcome (ℕ × ℕ)
 
 abbrev pub AnswerTo : Call → Type 0
 AnswerTo (book pan label amount) = Booked
@@ -84,13 +105,18 @@ pub record HandsOut (j : List ℕ) (P : RefT (List ℕ) → RefT (List ℕ) → 
 
 -- the promise of each call: what it allows as answer, made at a clock reading on a journal j, and as the journal's bytes k afterwards
 abbrev pub Replies : List ℕ → (q : Question) → ReplyTo q → Type 0
+Replies j (find s) r = Finds j s r
 Replies j (show s) p = HandsOut j (λ i r. ShowsOf i s r) p
 Replies j (showNumber s) x = NumberOfShow j s x
 Replies j tell r = TellsOf j r
+Replies j (survey t) r = Surveys j t (r .says) (r .states)
 Replies j walkStart s = StartsAt j s
 Replies j walkNumber x = StartNumber j x
 Replies j (walkRecord s) p = HandsOut j (λ i r. Shows i (heldRule (i .now) s) r) p
 Replies j (walkOn s) x = x ≡ nextOf j s
+Replies j (walkAbove s) o = Seen j (λ m. o ≡ walkRule m j s)
+Replies j walkFirst o = Seen j (λ m. o ≡ startRule m j)
+Replies j (walkStep s) o = o ≡ stepRule j s
 
 abbrev pub Does : List ℕ → ℕ → (c : Call) → AnswerTo c → List ℕ → Type 0
 Does j clock (book pan label amount) r k = (amount < 4294967296) × Books j pan label amount clock r k
@@ -134,10 +160,10 @@ abbrev pub ofBooking : Booked → ℕ → ℕ → ℕ → List ℕ → Effect
 ofBooking (booking.Serial s) clock amount label pan = booked-one (record { serial = s; clock = clock; amount = amount; label = label; pan = pan })
 ofBooking (booking.Refused x) clock amount label pan = nothing
 
--- by a swipe, with the PAN and the label that its card says
+-- a swipe booked where it answers a serial, by that answer alone; with the PAN and the label that its card says, none where the card is refused
+-- (a serial is never answered for such a card: `swiped-card`)
 abbrev pub ofSwipe : Swiped → Outcome Payer → ℕ → ℕ → Effect
-ofSwipe (swiping.Serial s) (gives p) clock amount = ofBooking (booking.Serial s) clock amount (p .label) (p .pan)
-ofSwipe (swiping.Serial s) (refuses x) clock amount = nothing
+ofSwipe (swiping.Serial s) card clock amount = ofBooking (booking.Serial s) clock amount (after card 0 (λ p. p .label)) (after card [] (λ p. p .pan))
 ofSwipe (swiping.Refused x) card clock amount = nothing
 
 abbrev pub ofRelease : Released → ℕ → Effect
@@ -244,13 +270,18 @@ pub record SamePart (p q : Part) : Type 0 where
 
 -- the same answer, a record handed out but for its clock field
 abbrev pub SameReply : (q : Question) → ReplyTo q → ReplyTo q → Type 0
+SameReply (find s) r q = r ≡ q
 SameReply (show s) p q = SamePart p q
 SameReply (showNumber s) x y = x ≡ y
 SameReply tell r q = r ≡ q
+SameReply (survey t) r q = r ≡ q
 SameReply walkStart x y = x ≡ y
 SameReply walkNumber x y = x ≡ y
 SameReply (walkRecord s) p q = SamePart p q
 SameReply (walkOn s) x y = x ≡ y
+SameReply (walkAbove s) o p = o ≡ p
+SameReply walkFirst o p = o ≡ p
+SameReply (walkStep s) o p = o ≡ p
 
 abbrev pub SameAnswer : (c : Call) → AnswerTo c → AnswerTo c → Type 0
 SameAnswer (book pan label amount) r q = r ≡ q

@@ -73,7 +73,7 @@ unfolding sumOf
 same-sum rs qs none = refl
 same-sum rs qs (more {r = r} {q = q} {rs = rs'} {qs = qs'} s w) = λ i. same-amount r q s i + same-sum rs' qs' w i
 
-same-first : (rs qs : List (List ℕ)) → SameRecords rs qs → firstOf rs ≡ firstOf qs
+pub same-first : (rs qs : List (List ℕ)) → SameRecords rs qs → firstOf rs ≡ firstOf qs
 unfolding firstOf
 same-first rs qs none = refl
 same-first rs qs (more {r = r} {q = q} s w) = same-serial r q s

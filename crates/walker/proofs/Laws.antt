@@ -46,7 +46,7 @@ done j zero = refl
 done j (suc t) = refl
 
 module _ (j : List ℕ) (b : ℕ) (f : Formed j (slotsOf j) b) (fits : b < 4294967296) where
-  held-here : (s : ℕ) → lowOf j b < s → s ≤ b → isHeld (stateOf j (slotsOf j) s) ≡ true → heldHere j s ≡ true
+  pub held-here : (s : ℕ) → lowOf j b < s → s ≤ b → isHeld (stateOf j (slotsOf j) s) ≡ true → heldHere j s ≡ true
   held-here s l h e = is-here j s (f .least) (f .most) (λ z. omega arith) (f .stands s l h .serial) e
 
   -- no record stands after the newest
@@ -55,7 +55,7 @@ module _ (j : List ℕ) (b : ℕ) (f : Formed j (slotsOf j) b) (fits : b < 42949
       let lt : (b + 1 - 1) % slotsOf j < slotsOf j = mod-lt (b + 1 - 1) (omega (arith, f .least)) in
       refused-here j (b + 1) 20 (another j (b + 1) (f .least) (f .most) (λ z. omega arith) (λ e. omega (arith, e, serial-le j (slotsOf j) b f ((b + 1 - 1) % slotsOf j) lt)))
 
-  last-next : 1 ≤ b → 0 ≡ nextOf j b
+  pub last-next : 1 ≤ b → 0 ≡ nextOf j b
   last-next l = go (ℕ-discrete b 4294967295)
     where
       go : Dec (b ≡ 4294967295) → 0 ≡ nextOf j b
@@ -93,7 +93,7 @@ pub data Begins (j : List ℕ) (n low m : ℕ) : Type 0 where
   empty : heldAfter j n low m ≡ [] → Begins j n low m
   begins : (s : ℕ) → low < s → s ≤ low + m → isHeld (stateOf j n s) ≡ true → heldAfter j n low m ≡ heldAfter j n (s - 1) (low + m - (s - 1)) → Begins j n low m
 
-first-held : (j : List ℕ) (n low m : ℕ) → Begins j n low m
+pub first-held : (j : List ℕ) (n low m : ℕ) → Begins j n low m
 unfolding heldAfter
 first-held j n low zero = empty refl
 first-held j n low (suc m) = go (isHeld (stateOf j n (low + 1))) refl (first-held j n (low + 1) m)
@@ -112,7 +112,7 @@ first-held j n low (suc m) = go (isHeld (stateOf j n (low + 1))) refl (first-hel
         begins s (omega arith) (omega arith) k (skip e ∙ x ∙ ap (heldAfter j n (s - 1)) q)
 
 -- the first serial of a list that begins with a held record
-first-serial : (j : List ℕ) (n b s m : ℕ) → Formed j n b → b - n < s → s ≤ b → isHeld (stateOf j n s) ≡ true → 0 < m → firstOf (heldAfter j n (s - 1) m) ≡ s
+pub first-serial : (j : List ℕ) (n b s m : ℕ) → Formed j n b → b - n < s → s ≤ b → isHeld (stateOf j n s) ≡ true → 0 < m → firstOf (heldAfter j n (s - 1) m) ≡ s
 unfolding heldAfter firstOf
 first-serial j n b s zero f l h e pos = absurd (omega arith)
 first-serial j n b s (suc m) f l h e pos =
@@ -121,7 +121,7 @@ first-serial j n b s (suc m) f l h e pos =
     ∙ ap (λ (t : Bool). firstOf (cond t (recordAt j n s ∷ heldAfter j n s m) (heldAfter j n s m))) e
     ∙ record-serial j n b s f l h
 
-first-none : firstOf [] ≡ 0
+pub first-none : firstOf [] ≡ 0
 unfolding firstOf
 first-none = refl
 

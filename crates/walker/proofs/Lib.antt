@@ -1,3 +1,5 @@
 pub mod Apart
 pub mod Held
+pub mod Steps
 pub mod Laws
+pub mod Whole

@@ -1,4 +1,6 @@
 // A walker holds the lent journal and its place, and gives held records, as parts of it, by rising serial, each once, then says done.
+pub mod inner;
+
 use journal::Shown;
 use journal::Told;
 use reasons::Reason;
@@ -15,7 +17,7 @@ pub struct Walker<'a> {
 // ---- the covered functions, on the journal and a serial
 
 // Where the record of serial s begins, where it stands held in its slot.
-fn find_held(j: &[u8], s: u32) -> Shown
+pub fn find_held(j: &[u8], s: u32) -> Shown
     ensures { λ r. ⌜ saidShown r ≡ heldRule (now (j .entry)) s ⌝ }
 {
     let n = j.len() / 32;

@@ -1,10 +1,11 @@
 use mathlib.Core.Path.{refl}
 use Rattle.slots.proofs.Views.{seen}
-use Rattle.goltwarden.proofs.Handed.{kept}
-use Rattle.goltwarden.proofs.Walked.{walk-bad, walk-gave, is-formed}
+use Rattle.walker.proofs.Steps.{walk-bad, walk-given}
+use Rattle.goltwarden.proofs.Handed.{gave, kept}
+use Rattle.goltwarden.proofs.Walked.{is-formed}
 use borrow.Author.Needs.{needs}
-use Rattle.goltwarden.proofs.journals.gw_journal_walk.Statement.{statement}
-use Rattle.goltwarden.proofs.journals.gw_journal_walk.Tie as tie
+use Rattle.goltwarden.proofs.walks.gw_journal_walk.Statement.{statement}
+use Rattle.goltwarden.proofs.walks.gw_journal_walk.Tie as tie
 
 newest-of-requires : tie.Need-newest-of-requires
 newest-of-requires c κs = search needs
@@ -39,7 +40,7 @@ returns-2 c =
     let a = at .before .before .args in
     let j = a .journal .now in
     seen j _ _ (at .newest-of .ensures) (c .before .before .before .b .given .1)
-    (walk-gave j _ (a .above) _ _ _ (c .before .first-above .ensures) (c .place-or-zero .ensures))
+    (gave _ _ _ _ (walk-given j _ (a .above) _ _ (c .before .first-above .ensures) (c .place-or-zero .ensures)))
 
 pub gw-journal-walk-spec : {M : Type 1} → statement M
 gw-journal-walk-spec =

@@ -1,7 +1,7 @@
-use Rattle.goltwarden.proofs.Walked.{none-above, first-is}
+use Rattle.walker.proofs.Steps.{none-above, first-is}
 use borrow.Author.Needs.{needs}
-use Rattle.goltwarden.proofs.journals.first_above.Statement.{statement}
-use Rattle.goltwarden.proofs.journals.first_above.Tie as tie
+use Rattle.walker.proofs.inner.first_above.Statement.{statement}
+use Rattle.walker.proofs.inner.first_above.Tie as tie
 
 returns : tie.Need-returns
 returns c =

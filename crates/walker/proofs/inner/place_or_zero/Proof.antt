@@ -1,7 +1,7 @@
-use Rattle.goltwarden.proofs.Walked.{place-there}
+use Rattle.walker.proofs.Steps.{place-there}
 use borrow.Author.Needs.{needs}
-use Rattle.goltwarden.proofs.journals.place_or_zero.Statement.{statement}
-use Rattle.goltwarden.proofs.journals.place_or_zero.Tie as tie
+use Rattle.walker.proofs.inner.place_or_zero.Statement.{statement}
+use Rattle.walker.proofs.inner.place_or_zero.Tie as tie
 
 returns : tie.Need-returns
 returns c = search needs
