@@ -6,7 +6,9 @@ use Prim.Native.Nat.{ℕ}
 use native.Mathlib.Omega.{arith}
 use mathlib.Core.List.{[], _∷_}
 use lib.ListN.{getD}
-use Rattle.reasons.specs.Reasons.{numberOf, Outcome, gives, refuses, demand, after, andThen, said}
+use Rattle.text.specs.Bytes.{bytesOf}
+use Rattle.reasons.specs.Reasons.{numberOf, wordsOf, Phrases, Outcome, gives, refuses, demand, after, numberIn, andThen, said}
+use Rattle.reasons.specs.declared.Phrase.{Phrase}
 use Rattle.reasons.specs.declared.Tested.{Tested}
 use Rattle.reasons.specs.declared.Tested.the-variants.{Passes, Refused}
 use Rattle.reasons.specs.declared.Reason.{Reason}
@@ -77,13 +79,17 @@ back JournalFull = refl
 back SerialsUsedUp = refl
 back NoSerial = refl
 
+-- equal refusals, equal numbers
+pub refused-number : {A : Type 0} (m n : ℕ) → _≡_ {A = Outcome A} (refuses m) (refuses n) → m ≡ n
+refused-number m n e = cc
+
 -- equal numbers, equal reasons
 pub numberOf-one : (r q : Reason) → numberOf r ≡ numberOf q → r ≡ q
 numberOf-one r q e = sym (back r) ∙ ap reasonOf e ∙ back q
 
 -- equal refusals, equal reasons
 pub refuses-one : {A : Type 0} (a b : Reason) → _≡_ {A = Outcome A} (refuses (numberOf a)) (refuses (numberOf b)) → a ≡ b
-refuses-one a b e = let n : numberOf a ≡ numberOf b = cc in numberOf-one a b n
+refuses-one a b e = numberOf-one a b (refused-number (numberOf a) (numberOf b) e)
 
 -- what is said tells the answer
 pub said-one : (r q : Tested) → said r ≡ said q → r ≡ q
@@ -101,7 +107,36 @@ refused (refuses n) h = (n, refl)
 pub after-refusal : {A B : Type 0} (o : Outcome A) (old : B) (new : A → B) (n : ℕ) → o ≡ refuses n → after o old new ≡ old
 after-refusal o old new n e = ap (λ (p : Outcome _). after p old new) e
 
--- a call that goes on with another's value gives one exactly where the other did, and it did with that
+-- one call after another gives a value exactly where the first does and the second, with that, does too;
 pub went-on : {A B : Type 0} (o : Outcome A) (f : A → Outcome B) (w : B) → andThen o f ≡ gives w → (v : A) × (o ≡ gives v) × (f v ≡ gives w)
 went-on (gives v) f w e = (v, refl, e)
 went-on (refuses n) f w e = gives-refuses w n (sym e)
+
+went-wrong : {A B : Type 0} (o : Outcome A) (f : A → Outcome B) (n : ℕ) → andThen o f ≡ refuses n → (o ≡ refuses n) ⊎ ((v : A) × (o ≡ gives v) × (f v ≡ refuses n))
+went-wrong (gives v) f n e = inr (v, refl, e)
+went-wrong (refuses m) f n e = inl (ap {B = Outcome _} refuses (refused-number m n e))
+
+module _ {A B : Type 0} (o : Outcome A) (f : A → Outcome B) where
+  goes-on : (v : A) (p : Outcome B) → o ≡ gives v → f v ≡ p → andThen o f ≡ p
+  goes-on v p e h = ap (λ (q : Outcome A). andThen q f) e ∙ h
+
+  pub goes-on-exactly : (w : B) → (andThen o f ≡ gives w) ↔ ((v : A) × (o ≡ gives v) × (f v ≡ gives w))
+  goes-on-exactly w = (went-on o f w, λ h. goes-on (h .0) (gives w) (h .1) (h .2))
+
+  -- and it refuses n exactly where the first refuses n, or gives a value with which the second refuses n
+  pub either-refuses : (n : ℕ) → (andThen o f ≡ refuses n) ↔ ((o ≡ refuses n) ⊎ ((v : A) × (o ≡ gives v) × (f v ≡ refuses n)))
+  either-refuses n = (went-wrong o f n, ⊎-elim (λ h. ap (λ (q : Outcome A). andThen q f) h) (λ h. goes-on (h .0) (refuses n) (h .1) (h .2)))
+
+-- ---- each call has one outcome
+
+pub number-one : (r : Reason) (x y : ℕ) → x ≡ numberOf r → y ≡ numberOf r → x ≡ y
+number-one r x y a b = a ∙ sym b
+
+pub tested-number-one : (t : Tested) (x y : ℕ) → x ≡ numberIn (said t) → y ≡ numberIn (said t) → x ≡ y
+tested-number-one t x y a b = a ∙ sym b
+
+pub words-one : (r : Reason) (w v : Phrase) → Phrases (bytesOf (wordsOf r)) w → Phrases (bytesOf (wordsOf r)) v → w ≡ v
+words-one r w v a b =
+    let n : w .len ≡ v .len = a .1 ∙ sym (b .1) in
+    let s : w .bytes ≡ v .bytes = a .2 ∙ sym (b .2) in
+    λ i. record { bytes = s i; len = n i }
