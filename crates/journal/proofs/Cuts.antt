@@ -1,4 +1,5 @@
--- A power cut after any number of writes. Assumes nothing.
+-- A power cut while a call's changed bytes are copied, in the order of its writes, to memory that outlives the power: after any number of them.
+-- Assumes nothing.
 use Prim.Native.Nat.{ℕ, zero, suc, _≤_, _<_, _+_, _-_, _*_, _/_, _%_}
 use mathlib.Core.Path.{_≡_, refl, sym, ap, _∙_, subst, subst⁻¹}
 use mathlib.Core.Bool.{Bool, true, false, cond}

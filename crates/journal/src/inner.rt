@@ -144,7 +144,7 @@ fn free_one(j: &mut [u8], at: usize)
     }
 }
 
-// Releases the held records of the serials after low up to top, by rising serial: a cut in between leaves the release of a lower serial.
+// Releases the held records of the serials after low up to top, by rising serial: the order in which memory that outlives the power is to be written.
 fn free(j: &mut [u8], n: usize, low: u32, top: u32)
     requires { ⌜ (1 ≤ n) × (n ≤ 2048) × (length (now j) ≡ 32 * n) × (low ≤ top) × (low < 4294967295) ⌝ }
     ensures { λ _. ⌜ now (j .exit) ≡ freedAfter (now (j .entry)) n low (top - low) ⌝ }

@@ -26,12 +26,18 @@ use Rattle.walker.proofs.Held.{another, is-here, refused-here, next-las
 
 -- ---- each call has one outcome
 
+pub one-oldest : (j : List ℕ) (x y : ℕ) → StartsAt j x → StartsAt j y → x ≡ y
+one-oldest j x y a b = let w = one-view j a b in w .1 ∙ sym (w .2)
+
+pub one-next : (j : List ℕ) (s x y : ℕ) → x ≡ nextOf j s → y ≡ nextOf j s → x ≡ y
+one-next j s x y a b = a ∙ sym b
+
 -- two walkers with the same journal and the same serial are one
 same-walker : (v w : Walker) → v .journal ≡ w .journal → v .next ≡ w .next → v ≡ w
 same-walker v w a b = λ i. record { journal = a i; next = b i }
 
 pub one-start : (j : RefT (List ℕ)) (v w : Walker) → (v .journal ≡ j) × StartsAt (j .now) (v .next) → (w .journal ≡ j) × StartsAt (j .now) (w .next) → v ≡ w
-one-start j v w a b = let s = one-view (j .now) (a .1) (b .1) in same-walker v w (a .0 ∙ sym (b .0)) (s .1 ∙ sym (s .2))
+one-start j v w a b = same-walker v w (a .0 ∙ sym (b .0)) (one-oldest (j .now) (v .next) (w .next) (a .1) (b .1))
 
 pub one-start-number : (j : List ℕ) (x y : ℕ) → StartNumber j x → StartNumber j y → x ≡ y
 one-start-number j x y a b = let w = one-view j a b in w .1 ∙ sym (w .2)
@@ -41,7 +47,7 @@ one-record j r q s a b = shows-one j r q (heldRule (j .now) s) (heldRule (j .now
 
 pub one-move : (u v w : Walker) → (v .journal ≡ u .journal) × (v .next ≡ nextOf (u .journal .now) (u .next))
     → (w .journal ≡ u .journal) × (w .next ≡ nextOf (u .journal .now) (u .next)) → v ≡ w
-one-move u v w a b = same-walker v w (a .0 ∙ sym (b .0)) (a .1 ∙ sym (b .1))
+one-move u v w a b = same-walker v w (a .0 ∙ sym (b .0)) (one-next (u .journal .now) (u .next) (v .next) (w .next) (a .1) (b .1))
 
 -- ---- the walk
 
