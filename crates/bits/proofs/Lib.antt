@@ -8,4 +8,5 @@ pub mod Flips
 pub mod FlipBytes
 pub mod Lengths
 pub mod Laws
+pub mod Refusals
 pub mod Seven

@@ -53,7 +53,7 @@ abbrev pub foundCount : Found → ℕ
 foundCount (Chars n) = n
 foundCount (Unfound r) = 0
 
--- what a reading one way says and does that has this outcome: the characters' count, and the output from old to new
+-- a reading one way with this outcome says the characters' count, and turns the output from old to new
 pub record WayRead (r : Found) (o : Outcome (List ℕ)) (old new : List ℕ) : Type 0 where
   pub says : foundLength r ≡ andThen o (λ cs. gives (length cs))
   pub writes : new ≡ after o old (λ cs. put old 0 cs)

@@ -47,7 +47,7 @@ fn symbol(s: &[u8], count: usize, reversed: bool, at: usize, width: usize) -> u8
     x
 }
 
-// Parity: whether the ones among the bits of n, and p, a parity bit, are odd in number.
+// Parity: whether the ones among the bits of n and the parity bit p are odd in number.
 fn is_odd(n: u8, p: u8) -> bool
     requires { ⌜ p ≤ 1 ⌝ }
     ensures { λ r. ⌜ r ≡ eqb ((Count.ones n + p) % 2) 1 ⌝ }
@@ -125,8 +125,9 @@ fn close(s: &[u8], count: usize, reversed: bool, at: usize, size: usize, x: u8) 
     }
 }
 
-// A track's shape: the data bits of a character; the start sentinel's bits after its first, a one, as a number, and the number of its data
-// bits; the end sentinel's number; the byte of number 0; the last character that may be the end sentinel.
+// A track's shape. `size`: the data bits of a character; `start`: the start sentinel's bits after the first, which is a one, as a number;
+// `first`, `last`: the numbers of the start and the end sentinel; `base`: the byte of number 0; `limit`: the last character that may be
+// the end sentinel.
 pub struct Shape {
     pub size: usize,
     pub start: u8,
@@ -142,7 +143,7 @@ pub enum Found {
     Refused(Reason),
 }
 
-// What a reading found of which the close has this to say.
+// What a reading of `len` characters found, where t says of what follows its end sentinel whether it passes.
 fn closed(t: Tested, len: usize) -> Found
     ensures { λ r. ⌜ ((out : List ℕ) → found r out ≡ andThen (tested t) (λ _. gives (take len out))) × (foundCount r ≤ len) ⌝ }
 {

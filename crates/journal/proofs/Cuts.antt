@@ -1,4 +1,5 @@
--- A power cut after any number of writes. Assumes nothing.
+-- A power cut while a call's changed bytes are copied, in the order of its writes, to memory that outlives the power: after any number of them.
+-- Assumes nothing.
 use Prim.Native.Nat.{ℕ, zero, suc, _≤_, _<_, _+_, _-_, _*_, _/_, _%_}
 use mathlib.Core.Path.{_≡_, refl, sym, ap, _∙_, subst, subst⁻¹}
 use mathlib.Core.Bool.{Bool, true, false, cond}
@@ -12,7 +13,7 @@ use Rattle.text.proofs.Put.{part-same}
 use Rattle.reasons.specs.Reasons.{Outcome, gives, refuses, after}
 use Rattle.reasons.proofs.Laws.{gives-refuses, passed}
 use Rattle.text.specs.Bytes.{within}
-use Rattle.text.proofs.Tests.{inside-is}
+use Rattle.text.proofs.Tests.{under, inside-is}
 use Rattle.slots.specs.Record.{isHeld, freedState, stateAt, record32}
 use Rattle.slots.specs.Journal.{slotsOf, place, stateOf, Formed, NewestIs}
 use Rattle.slots.specs.Views.{newest}
@@ -276,7 +277,7 @@ release-there j b s v e = inside-is 1 b s (passed (within 1 b s) 20 _ v (sym e) 
 release-zero : (m : Newest) (j : List ℕ) → j ≡ releaseBytes m j 0
 unfolding releaseBytes
 release-zero Malformed j = same-after j (λ _. freedAfter j (slotsOf j) (lowOf j 0) (0 - lowOf j 0)) (release-bad j 0)
-release-zero (Is b) j = same-after j (λ _. freedAfter j (slotsOf j) (lowOf j b) (0 - lowOf j b)) (release-none j b 0 refl)
+release-zero (Is b) j = same-after j (λ _. freedAfter j (slotsOf j) (lowOf j b) (0 - lowOf j b)) (release-none j b 0 (under 1 b 0 (omega arith)))
 
 -- the release of p serials, in a journal that keeps those after low, is the release of one of them
 fewer : (j : List ℕ) (b s p : ℕ) → s ≤ b → p ≤ s - lowOf j b → (t : ℕ) × (t ≤ s) × (wrote j (freeWrites j (slotsOf j) (lowOf j b) p) ≡ releaseBytes (Is b) j t)

@@ -6,6 +6,7 @@ pub mod Freed
 pub mod Kept
 pub mod Calls
 pub mod Laws
+pub mod Refusals
 pub mod Surveys
 pub mod Cuts
 pub mod Radio

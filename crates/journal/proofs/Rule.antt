@@ -9,7 +9,7 @@ use lib.ListN.{length}
 use borrow.Author.Tests.{eq-eqb, ne-eqb}
 use Rattle.reasons.specs.Reasons.{Outcome, gives, refuses, demand, after}
 use Rattle.reasons.proofs.Laws.{passed}
-use Rattle.text.specs.Bytes.{allDigits}
+use Rattle.text.specs.Bytes.{within, allDigits}
 use Rattle.luhn.specs.Luhn.{passes, luhnRule}
 use Rattle.text.proofs.Tests.{under, over, inside}
 use Rattle.text.specs.Numbers.{put}
@@ -113,13 +113,9 @@ written j k r pan b clock amount label f long er e =
 -- ---- release
 
 module _ (j : List ℕ) (b s : ℕ) where
-  pub release-none : s ≡ 0 → refuses 20 ≡ releaseRule (Is b) j s
+  pub release-none : within 1 b s ≡ false → refuses 20 ≡ releaseRule (Is b) j s
   unfolding releaseRule
-  release-none h = simp (under 1 b s (omega arith))
-
-  pub release-above : b < s → refuses 20 ≡ releaseRule (Is b) j s
-  unfolding releaseRule
-  release-above h = simp (over 1 b s h)
+  release-none h = simp h
 
   pub release-done : 1 ≤ s → s ≤ b → gives (record { count = length (heldUpTo j b s); sum = sumOf (heldUpTo j b s) }) ≡ releaseRule (Is b) j s
   unfolding releaseRule
@@ -127,21 +123,17 @@ module _ (j : List ℕ) (b s : ℕ) where
 
   -- ---- show
 
-  pub show-low : s ≤ lowOf j b → refuses 20 ≡ showRule (Is b) j s
+  pub show-none : within (lowOf j b + 1) b s ≡ false → refuses 20 ≡ showRule (Is b) j s
   unfolding showRule heldIn
-  show-low h = simp (under (lowOf j b + 1) b s (omega arith))
+  show-none h = simp h
 
-  pub show-high : b < s → refuses 20 ≡ showRule (Is b) j s
+  pub show-free : within (lowOf j b + 1) b s ≡ true → isHeld (stateOf j (slotsOf j) s) ≡ false → refuses 20 ≡ showRule (Is b) j s
   unfolding showRule heldIn
-  show-high h = simp (over (lowOf j b + 1) b s h)
+  show-free h e = simp (h, e)
 
-  pub show-free : lowOf j b < s → s ≤ b → isHeld (stateOf j (slotsOf j) s) ≡ false → refuses 20 ≡ showRule (Is b) j s
+  pub show-done : within (lowOf j b + 1) b s ≡ true → isHeld (stateOf j (slotsOf j) s) ≡ true → gives (place (slotsOf j) s) ≡ showRule (Is b) j s
   unfolding showRule heldIn
-  show-free l h e = simp (inside (lowOf j b + 1) b s (omega arith) h, e)
-
-  pub show-done : lowOf j b < s → s ≤ b → isHeld (stateOf j (slotsOf j) s) ≡ true → gives (place (slotsOf j) s) ≡ showRule (Is b) j s
-  unfolding showRule heldIn
-  show-done l h e = simp (inside (lowOf j b + 1) b s (omega arith) h, e)
+  show-done h e = simp (h, e)
 
 -- a record that is shown lies in the journal
 pub shown-in : (j : List ℕ) (m : Newest) (s at : ℕ) → NewestIs j m → gives at ≡ showRule m j s → at + 32 ≤ length j

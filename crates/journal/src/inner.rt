@@ -13,6 +13,7 @@ ghost use mathlib.Core.List.{List, _∷_};
 ghost use Prim.Native.Nat.{ℕ, _+_, _*_, _-_, _≤_, _<_};
 ghost use lib.ListN.{length, take, drop};
 ghost use Rattle.reasons.specs.Reasons.{said};
+ghost use Rattle.text.specs.Bytes.{within};
 ghost use Rattle.text.specs.Numbers.{put};
 ghost use Rattle.slots.specs.Record.{isHeld, stateAt, record32};
 ghost use Rattle.slots.specs.Journal.{slotsOf, place, Formed};
@@ -120,6 +121,16 @@ pub fn tally(j: &[u8], n: usize, low: u32, top: u32) -> Tallied
     t
 }
 
+// Whether s is one of the serials after low up to b.
+fn is_after(low: u32, b: u32, s: u32) -> bool
+    ensures { λ r. ⌜ r ≡ within (low + 1) b s ⌝ }
+{
+    if s <= low {
+        return false;
+    }
+    s <= b
+}
+
 // ---- release
 
 // Turns the state of the record at `at` into released, where it is held.
@@ -133,7 +144,7 @@ fn free_one(j: &mut [u8], at: usize)
     }
 }
 
-// Releases the held records of the serials after low up to top, by rising serial: a cut in between leaves the release of a lower serial.
+// Releases the held records of the serials after low up to top, by rising serial: the order in which memory that outlives the power is to be written.
 fn free(j: &mut [u8], n: usize, low: u32, top: u32)
     requires { ⌜ (1 ≤ n) × (n ≤ 2048) × (length (now j) ≡ 32 * n) × (low ≤ top) × (low < 4294967295) ⌝ }
     ensures { λ _. ⌜ now (j .exit) ≡ freedAfter (now (j .entry)) n low (top - low) ⌝ }
@@ -152,10 +163,7 @@ pub fn release_at(j: &mut [u8], b: u32, s: u32) -> Released
     requires { ⌜ Formed (now j) (slotsOf (now j)) b ⌝ }
     ensures { λ r. ⌜ (saidReleased r ≡ releaseRule (Is b) (now (j .entry)) s) × (now (j .exit) ≡ releaseBytes (Is b) (now (j .entry)) s) ⌝ }
 {
-    if s == 0 {
-        return Released::Refused(Reason::NoSerial);
-    }
-    if b < s {
+    if !is_after(0, b, s) {
         return Released::Refused(Reason::NoSerial);
     }
     let n = j.len() / 32;
@@ -188,10 +196,7 @@ pub fn find_at(j: &[u8], b: u32, s: u32) -> Shown
 {
     let n = j.len() / 32;
     let low = slots::floor_of(n, b);
-    if s <= low {
-        return Shown::Refused(Reason::NoSerial);
-    }
-    if b < s {
+    if !is_after(low, b, s) {
         return Shown::Refused(Reason::NoSerial);
     }
     let at = slots::place_of(n, s);

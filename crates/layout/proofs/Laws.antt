@@ -1,7 +1,8 @@
 -- The laws of the layout: what is accepted has the form, what has the form is accepted, and its division is the only one. Assumes nothing.
 use Prim.Native.Nat.{ℕ, _+_, _≤_, _<_}
 use mathlib.Core.Path.{_≡_, refl, sym, ap, ap₂, _∙_, subst}
-use mathlib.Core.Bool.{Bool, true, _&&_}
+use mathlib.Core.Bool.{Bool, true, false, _&&_, cond}
+use mathlib.Core.Logic.{_↔_, ⊎-elim}
 use mathlib.Core.List.{List, _∷_, _++_}
 use native.Mathlib.Omega.{arith}
 use native.Mathlib.Numerals.{add-one}
@@ -12,8 +13,8 @@ use denote.Ref.{RefT}
 use Rattle.text.specs.Bytes.{isDigit, allDigits}
 use Rattle.text.proofs.Tests.{inside-is, both-true}
 use Rattle.text.proofs.Parts.{Same, part-one}
-use Rattle.reasons.specs.Reasons.{numberOf, numberIn, gives}
-use Rattle.reasons.proofs.Laws.{gives-refuses, refuses-one, passed, went-on}
+use Rattle.reasons.specs.Reasons.{Outcome, numberOf, numberIn, gives, refuses, demand, andThen}
+use Rattle.reasons.proofs.Laws.{gives-refuses, refuses-one, passed, stopped, went-on, went-wrong}
 use Rattle.pan.specs.Pan.{panLength}
 use Rattle.layout.specs.Layout.{isExpiry, isService, lead, equalsAt, fieldRule, past, Places, restRule, serviceRule, expiryRule, layoutRule, said, CutOf, fieldCut, panCut, expiryCut, serviceCut, restCut}
 use Rattle.layout.specs.Grammar.{Optional, absent, present, written, Passes, Pieces, textOf, Formed, placed, placesOf, fieldIn, piecesAt}
@@ -184,6 +185,57 @@ places-small s d accepted =
       omega (arith, p, e, placed-start 3 (length (g .pan) + 1 + length (written (g .expiry))) (g .service)),
       omega (arith, p, e, v),
     )
+
+-- ---- "Anything else is 6"
+
+-- each step refuses with 6 alone, and so do steps one after another
+stops-six : {A : Type 0} (t : Bool) (o : Outcome A) (m : ℕ) → (o ≡ refuses m → m ≡ 6) → demand t 6 o ≡ refuses m → m ≡ 6
+stops-six t o m h e = ⊎-elim (λ x. x .1) (λ x. h (x .1)) (stopped t 6 o m e)
+
+then-six : {A B : Type 0} (o : Outcome A) (f : A → Outcome B) (m : ℕ) → (o ≡ refuses m → m ≡ 6) → ((v : A) → f v ≡ refuses m → m ≡ 6) → andThen o f ≡ refuses m → m ≡ 6
+then-six o f m h k e = ⊎-elim h (λ x. k (x .0) (x .2)) (went-wrong o f m e)
+
+field-six : (test : List ℕ → Bool) (n : ℕ) (s : List ℕ) (q m : ℕ) → fieldRule test n s q ≡ refuses m → m ≡ 6
+unfolding fieldRule
+field-six test n s q m e = by (equalsAt s q) e
+  where
+    by : (b : Bool) → cond b (gives Absent) (demand (test (take n (drop q s))) 6 (gives (At q))) ≡ refuses m → m ≡ 6
+    by true e = gives-refuses Absent m e
+    by false e = stops-six (test (take n (drop q s))) (gives (At q)) m (gives-refuses (At q) m) e
+
+module _ (s : List ℕ) (m : ℕ) where
+  rest-six : (d : Places) → restRule s d ≡ refuses m → m ≡ 6
+  unfolding restRule
+  rest-six d = stops-six (allDigits (drop (d .rest) s)) (gives d) m (gives-refuses d m)
+
+  service-six : (p : ℕ) (e : Field) (q : ℕ) → serviceRule s p e q ≡ refuses m → m ≡ 6
+  unfolding serviceRule
+  service-six p e q =
+      then-six (fieldRule isService 3 s q) (λ v. restRule s (record { pan = p; expiry = e; service = v; rest = past 3 q v })) m
+      (field-six isService 3 s q m)
+      (λ v. rest-six (record { pan = p; expiry = e; service = v; rest = past 3 q v }))
+
+  expiry-six : (p : ℕ) → expiryRule s p ≡ refuses m → m ≡ 6
+  unfolding expiryRule
+  expiry-six p =
+      then-six (fieldRule isExpiry 4 s (p + 1)) (λ e. serviceRule s p e (past 4 (p + 1) e)) m
+      (field-six isExpiry 4 s (p + 1) m)
+      (λ e. service-six p e (past 4 (p + 1) e))
+
+  only-six : layoutRule s ≡ refuses m → m ≡ 6
+  unfolding layoutRule
+  only-six = stops-six (panLength (lead s) && equalsAt s (lead s)) (expiryRule s (lead s)) m (expiry-six (lead s))
+
+-- a text is refused exactly where no pieces of the form make it up, and then with 6
+pub six-exactly : (s : List ℕ) (n : ℕ) → (layoutRule s ≡ refuses n) ↔ ((n ≡ 6) × ((g : Pieces) → Formed g → textOf g ≡ s → ⊥))
+six-exactly s n = (
+  λ e. (only-six s n e, λ g f h. gives-refuses (placesOf g) n (sym (form-accepted g f) ∙ ap layoutRule h ∙ e)),
+  λ h. by (layoutRule s) refl (h .0) (h .1),
+)
+  where
+    by : (o : Outcome Places) → layoutRule s ≡ o → n ≡ 6 → ((g : Pieces) → Formed g → textOf g ≡ s → ⊥) → o ≡ refuses n
+    by (gives d) e h k = let w = accepted-form s d e in absurd (k (piecesAt s d) (w .formed) (w .text))
+    by (refuses m) e h k = ap {B = Outcome Places} refuses (only-six s m e ∙ sym h)
 
 -- what is said tells the answer
 pub said-one : (r q : Division) → said r ≡ said q → r ≡ q

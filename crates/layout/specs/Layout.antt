@@ -83,7 +83,7 @@ pub record Cut : Type 0 where
   pub start : ℕ
   pub size : ℕ
 
--- r is the part of s that the cut tells
+-- r is the part of s with the cut's start and size
 abbrev pub CutOf : RefT (List ℕ) → Cut → RefT (List ℕ) → Type 0
 CutOf s k r = PartOf s (k .start) (k .size) r
 

@@ -32,7 +32,7 @@ fn weigh(twice: bool, d: u32) -> u32
 }
 
 // The sum of a text of `least` to `most` digits, from the right. `double` says whether the last digit is doubled.
-// No call asks for more than 40 digits; up to 100 the sum's bound is proved, so that it is the rule that forbids a 41st.
+// The sum is proved to fit for up to 100 digits, more than any call allows: what refuses a 41st is the rule alone.
 fn sum(text: &[u8], least: usize, most: usize, double: bool) -> Summed
     requires { ⌜ most ≤ 100 ⌝ }
     ensures { λ r. ⌜ saidSum r ≡ sumRule least most double (now (text .entry)) ⌝ }

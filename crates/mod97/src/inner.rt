@@ -18,8 +18,7 @@ fn number_of(b: u8) -> u64
     (b - 55) as u64
 }
 
-// A number that leaves what v leaves, and after which one more character can be written: v itself as long as it is short, so that a
-// remainder is taken every dozen characters and not after each.
+// v, or once it is long its remainder: one more character can then be written after it. A remainder is taken every dozen characters, not after each.
 fn with_room(v: u64) -> u64
     ensures { λ r. ⌜ (r % 97 ≡ v % 97) × (r < 100000000000000000) ⌝ }
 {
@@ -40,7 +39,7 @@ fn written_after(v: u64, b: u8) -> u64
     100 * v + number_of(b)
 }
 
-// A number that leaves what the one leaves that is read where the text's characters are written after start.
+// The number that start and the text's characters after it write, or one with the same remainder.
 fn read_after(s: &[u8], start: u64) -> u64
     ensures { λ r. ⌜ r % 97 ≡ numberAfter start (now (s .entry)) % 97 ⌝ }
 {
@@ -53,7 +52,7 @@ fn read_after(s: &[u8], start: u64) -> u64
     v
 }
 
-// What is left once the first four characters are moved to the end.
+// The remainder of the text's number, its first four characters moved to the end.
 fn moved_remainder(s: &[u8]) -> u64
     requires { ⌜ 4 ≤ length (now s) ⌝ }
     ensures { λ r. ⌜ r ≡ leaves (now (s .entry)) ⌝ }

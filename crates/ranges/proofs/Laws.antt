@@ -2,6 +2,7 @@
 use Prim.Native.Nat.{ℕ, zero, suc, _+_, _*_, _/_, _%_, _<_, _≤_}
 use mathlib.Core.Path.{_≡_, refl, sym, ap, _∙_, subst}
 use mathlib.Core.Bool.{true, false}
+use mathlib.Core.Logic.{_↔_}
 use mathlib.Core.List.{List, []}
 use mathlib.Core.Option.{Option, some, none}
 use native.Mathlib.Omega.{arith}
@@ -11,8 +12,10 @@ use lib.Seq.{getD-take}
 use denote.Ref.{RefT}
 use Rattle.text.specs.Numbers.{u32At}
 use Rattle.text.proofs.Parts.{Same, part-one}
-use Rattle.reasons.specs.Reasons.{Outcome, gives, numberOf, numberIn}
-use Rattle.reasons.proofs.Laws.{gives-refuses, refuses-one}
+use Rattle.text.specs.Bytes.{allDigits}
+use Rattle.reasons.specs.Reasons.{Outcome, gives, refuses, numberOf, numberIn}
+use Rattle.reasons.proofs.Laws.{First, refuses-exactly, gives-refuses, refused-number, refuses-one}
+use Rattle.pan.specs.Pan.{panLength}
 use Rattle.ranges.specs.declared.Found.{Found}
 use Rattle.ranges.specs.declared.Found.the-variants.{Site, Acquirer, Refused}
 use Rattle.ranges.specs.Ranges.{tableOk, low, high, prefixOf, fits, firstFrom, choice, Place, inSite, inAcquirer, siteFirst, placeRule, rangeRule, saidFound, LooksUp, of-site, of-acquirer, nothing}
@@ -88,9 +91,20 @@ module _ (t : List ℕ) (p n : ℕ) where
       let g = chosen-first b e in
       ap some (omega (arith, no-later a b f g (decLt b a), no-later b a g f (decLt a b)))
 
-  -- and what is the first that fits is chosen
+  -- what is the first that fits is chosen,
   pub first-chosen : (a : ℕ) → IsFirst t p n a → choice t p n ≡ some a
   first-chosen a f = by-choice a (choice t p n) refl f
+
+  by-none : (o : Option ℕ) → choice t p n ≡ o → NoneFits t p n → o ≡ none
+  by-none none e h = refl
+  by-none (some a) e h =
+      let f = chosen-first a e in
+      let z = sym (h (a / 16) (omega (arith, f .inside))) ∙ ap (λ (x : ℕ). fits t x p n) (omega (arith, f .whole)) ∙ f .fit in
+      cc
+
+  -- and where nothing fits, nothing is chosen
+  pub none-chosen : NoneFits t p n → choice t p n ≡ none
+  none-chosen h = by-none (choice t p n) refl h
 
 module _ (site acquirer pan : List ℕ) where
   by-choices : (a b : Option ℕ) → choice site (prefixOf pan) (length pan) ≡ a → choice acquirer (prefixOf pan) (length pan) ≡ b → (w : Place)
@@ -104,6 +118,39 @@ module _ (site acquirer pan : List ℕ) where
   pub answer-first : (w : Place) → rangeRule site acquirer pan ≡ gives w → Answer site acquirer (prefixOf pan) (length pan) w
   unfolding placeRule
   answer-first w e = by-choices (choice site (prefixOf pan) (length pan)) (choice acquirer (prefixOf pan) (length pan)) refl refl w (range-place site acquirer pan w e)
+
+  -- ---- the refusals
+
+  -- no record of either table fits
+  abbrev pub NoRange : Type 0
+  NoRange = NoneFits site (prefixOf pan) (length pan) × NoneFits acquirer (prefixOf pan) (length pan)
+
+  neither : (a b : Option ℕ) → choice site (prefixOf pan) (length pan) ≡ a → choice acquirer (prefixOf pan) (length pan) ≡ b → (n : ℕ)
+      → siteFirst a b ≡ refuses n → (n ≡ 15) × NoRange
+  neither (some at) b e f n g = gives-refuses (inSite at) n g
+  neither none (some at) e f n g = gives-refuses (inAcquirer at) n g
+  neither none none e f n g = (sym (refused-number 15 n g), (chosen-none site _ _ e, chosen-none acquirer _ _ f))
+
+  pub place-refuses : (n : ℕ) → (placeRule site acquirer pan ≡ refuses n) ↔ ((n ≡ 15) × NoRange)
+  unfolding placeRule
+  place-refuses n = (
+    neither (choice site _ _) (choice acquirer _ _) refl refl n,
+    λ h. simp (none-chosen site _ _ (h .1 .0), none-chosen acquirer _ _ (h .1 .1), h .0),
+  )
+
+  -- "Order: 14 (site, then acquirer), 2, 3, 15"
+  pub range-refuses : (n : ℕ) → (rangeRule site acquirer pan ≡ refuses n)
+      ↔ First (tableOk site) 14 n (First (tableOk acquirer) 14 n (First (panLength (length pan)) 2 n (First (allDigits pan) 3 n ((n ≡ 15) × NoRange))))
+  unfolding rangeRule
+  range-refuses n = refuses-exactly _ 14 _ n (refuses-exactly _ 14 _ n (refuses-exactly _ 2 _ n (refuses-exactly _ 3 _ n (place-refuses n))))
+
+  -- with good tables and a good PAN the look-up refuses 15 exactly where no record of either table fits
+  pub no-range-exactly : tableOk site ≡ true → tableOk acquirer ≡ true → panLength (length pan) ≡ true → allDigits pan ≡ true
+      → (rangeRule site acquirer pan ≡ refuses 15) ↔ NoRange
+  unfolding rangeRule
+  no-range-exactly s a l d =
+      let p = place-refuses 15 in
+      (λ e. p .0 (simp (s, a, l, d) at e) .1, λ h. simp (s, a, l, d) (p .1 (refl, h)))
 
 -- "a record with low above high fits nothing"
 pub low-above-high : (t : List ℕ) (at p n : ℕ) → high t at < low t at → fits t at p n ≡ false

@@ -62,7 +62,7 @@ siteFirst (some at) other = gives (inSite at)
 siteFirst none (some at) = gives (inAcquirer at)
 siteFirst none none = refuses 15
 
--- where the record of a PAN stands, in tables that are no longer to be tested
+-- where the record of a PAN stands, in tables that passed
 unfoldable pub placeRule : List ℕ → List ℕ → List ℕ → Outcome Place
 placeRule site acquirer pan = siteFirst (choice site (prefixOf pan) (length pan)) (choice acquirer (prefixOf pan) (length pan))
 
@@ -80,7 +80,7 @@ abbrev pub labelAt : List ℕ → List ℕ → Place → ℕ
 labelAt site acquirer (inSite at) = label site at
 labelAt site acquirer (inAcquirer at) = label acquirer at
 
--- the label of a PAN's record, in tables that are no longer to be tested
+-- the label of a PAN's record, in tables that passed
 unfoldable pub labelRule : List ℕ → List ℕ → List ℕ → Outcome ℕ
 labelRule site acquirer pan = andThen (placeRule site acquirer pan) (λ w. gives (labelAt site acquirer w))
 

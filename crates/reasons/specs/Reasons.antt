@@ -1,9 +1,14 @@
 -- The numbered reasons of document 01, and what a call says in the paper's terms. Assumes nothing.
-use Prim.Native.Nat.{ℕ}
+use Prim.Native.Nat.{ℕ, _≤_}
 use Prim.Native.String.{String}
+use mathlib.Core.Path.{_≡_}
 use mathlib.Core.Bool.{Bool, true, false}
+use mathlib.Core.List.{List}
+use lib.ListN.{length, replicate}
+use Rattle.text.specs.Numbers.{put}
 use Rattle.reasons.specs.declared.Reason.{Reason}
 use Rattle.reasons.specs.declared.Reason.the-variants.{ShortOutput, BadCount, BadByte, WrongCheck, UnknownCountry, WrongLayout, BadBitCount, NoStart, CutShort, WrongParity, LongTrack, WrongLrc, MarksAfter, BadTable, NoRange, BadJournal, ZeroAmount, JournalFull, SerialsUsedUp, NoSerial}
+use Rattle.reasons.specs.declared.Phrase.{Phrase}
 use Rattle.reasons.specs.declared.Tested.{Tested}
 use Rattle.reasons.specs.declared.Tested.the-variants.{Passes, Refused}
 
@@ -53,17 +58,21 @@ wordsOf JournalFull = "journal full"
 wordsOf SerialsUsedUp = "serials used up"
 wordsOf NoSerial = "serial not there"
 
+-- w holds the text t: its length, and its bytes over 64 zeros
+abbrev pub Phrases : List ℕ → Phrase → Type 0
+Phrases t w = (w .len ≤ length (w .bytes)) × (w .len ≡ length t) × (w .bytes ≡ put (replicate 64 0) 0 t)
+
 -- what a call says: a value, or the number of a reason
 pub data Outcome (A : Type 0) : Type 0 where
   gives : A → Outcome A
   refuses : ℕ → Outcome A
 
--- where the condition of a reason holds the call refuses with its number, and else goes on; the test says that it doesn't hold
+-- a condition is tested: where the test passes the call goes on, and where it fails the call refuses with the number of the reason
 abbrev pub demand : {A : Type 0} → Bool → ℕ → Outcome A → Outcome A
 demand true n next = next
 demand false n next = refuses n
 
--- what is there after a call: what the value says where the call gives one, and where it refuses what was there before
+-- what lent bytes are after a call: new ones where it gives a value, the old ones where it refuses
 abbrev pub after : {A B : Type 0} → Outcome A → B → (A → B) → B
 after (gives v) old new = new v
 after (refuses n) old new = old
@@ -78,7 +87,7 @@ abbrev pub said : Tested → Outcome (Unit {0})
 said Passes = gives tt
 said (Refused r) = refuses (numberOf r)
 
--- what a call says that goes on with the value of another; the other's refusal is its own
+-- one call after another: the second goes on with the value of the first; where the first refuses, its number is the answer
 abbrev pub andThen : {A B : Type 0} → Outcome A → (A → Outcome B) → Outcome B
 andThen (gives v) next = next v
 andThen (refuses n) next = refuses n

@@ -1,9 +1,9 @@
 // The numbered reasons of document 01, their numbers and words; what a test answers.
 ghost use mathlib.Core.Path.{_≡_};
 ghost use Prim.Native.Nat.{_≤_};
-ghost use lib.ListN.{length, take};
+ghost use lib.ListN.{length};
 ghost use Rattle.text.specs.Bytes.{bytesOf};
-ghost use Rattle.reasons.specs.Reasons.{numberOf, numberIn, said, wordsOf};
+ghost use Rattle.reasons.specs.Reasons.{numberOf, numberIn, said, wordsOf, Phrases};
 
 pub enum Reason {
     ShortOutput,
@@ -72,7 +72,7 @@ pub fn tested_number(t: Tested) -> u32
     }
 }
 
-// A phrase for people: the first `len` bytes.
+// A phrase for people: the first `len` bytes, and zeros behind them.
 pub struct Phrase {
     pub bytes: [u8; 64],
     pub len: usize,
@@ -81,7 +81,7 @@ pub struct Phrase {
 // A short text by value.
 fn told(text: &[u8]) -> Phrase
     requires { ⌜ length (now text) ≤ 64 ⌝ }
-    ensures { λ w. ⌜ (w .len ≤ length (w .bytes)) × (take (w .len) (w .bytes) ≡ now (text .entry)) ⌝ }
+    ensures { λ w. ⌜ Phrases (now (text .entry)) w ⌝ }
 {
     let mut bytes = [0u8; 64];
     text::put_at(&mut bytes, 0, text);
@@ -93,7 +93,7 @@ fn told(text: &[u8]) -> Phrase
 
 // The paper's words of a reason.
 pub fn words(r: Reason) -> Phrase
-    ensures { λ w. ⌜ (w .len ≤ length (w .bytes)) × (take (w .len) (w .bytes) ≡ bytesOf (wordsOf r)) ⌝ }
+    ensures { λ w. ⌜ Phrases (bytesOf (wordsOf r)) w ⌝ }
 {
     match r {
         Reason::ShortOutput => told(b"lent output or scratch too short"),

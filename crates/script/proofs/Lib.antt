@@ -2,3 +2,4 @@ pub mod Words
 pub mod Pairs
 pub mod Rules
 pub mod Laws
+pub mod One

@@ -20,6 +20,20 @@ unfolding wrote
 wrote-length j [] = refl
 wrote-length j (w ∷ ws) = wrote-length (set j (w .place) (w .byte)) ws ∙ simp length-set
 
+-- a byte of the record is written at the turn that is its own place's byte, and so each byte once
+turn-below : (k : ℕ) → turnByte k < 32
+unfolding turnByte
+turn-below k = omega arith
+
+turn-back : (i : ℕ) → i < 32 → turnByte (turnByte i) ≡ i
+unfolding turnByte
+turn-back i h = omega arith
+
+-- the state byte is written last
+pub last-turn : (k : ℕ) → k < 31 → turnByte k ≡ 15 → ⊥
+unfolding turnByte
+last-turn k h e = omega arith
+
 module _ (r : List ℕ) (at : ℕ) where
   -- the write of turn k
   abbrev turnWrite : ℕ → Write
@@ -41,8 +55,8 @@ module _ (r : List ℕ) (at : ℕ) where
       ap (λ (ws : List Write). turnWrite k ∷ ws) (next-write (k + 1) m ∙ ap (λ (x : ℕ). writesFrom r at (k + 1) m ++ (turnWrite x ∷ [])) e)
 
   -- one turn of the loop, and its end
-  pub write-turn : (j₀ j : List ℕ) (k i : ℕ) → i ≡ (k + 16) % 32 → k < 32 → j ≡ wrote j₀ (take k (recordWrites r at)) → set j (at + i) (getD r i 0) ≡ wrote j₀ (take (k + 1) (recordWrites r at))
-  unfolding wrote turnByte
+  pub write-turn : (j₀ j : List ℕ) (k i : ℕ) → i ≡ turnByte k → k < 32 → j ≡ wrote j₀ (take k (recordWrites r at)) → set j (at + i) (getD r i 0) ≡ wrote j₀ (take (k + 1) (recordWrites r at))
+  unfolding wrote
   write-turn j₀ j k i b h e =
       let q : k + 1 ≡ suc k = omega arith in
       let z : 0 + k ≡ k = omega arith in
@@ -84,26 +98,21 @@ module _ (r : List ℕ) (at : ℕ) where
   outside j m x h o = wrote-other j 0 m x (λ i a b e. o (omega arith) (omega arith))
 
   pub state-last : (j : List ℕ) (m : ℕ) → m < 32 → getD (wrote j (writesFrom r at 0 m)) (at + 15) 0 ≡ getD j (at + 15) 0
-  unfolding turnByte
-  state-last j m h = wrote-other j 0 m (at + 15) (λ i a b e. omega arith)
+  state-last j m h = wrote-other j 0 m (at + 15) (λ i a b e. last-turn i (omega arith) (omega arith))
 
   -- all of them: the record stands in its slot, and no other byte changes
   pub wrote-put : (j : List ℕ) → length r ≡ 32 → at + 32 ≤ length j → wrote j (recordWrites r at) ≡ put j at r
-  unfolding turnByte
   wrote-put j lr h =
       let fits : at + length r ≤ length j = omega arith in
       ext-getD 0 (wrote j (recordWrites r at)) (put j at r) (wrote-length j (recordWrites r at) ∙ sym (length-put j r at fits)) (λ x l. byte fits x (decLt x at) (decLt x (at + 32)))
     where
-      turned : (i : ℕ) → i < 32 → getD (wrote j (writesFrom r at 0 32)) (at + (i + 16) % 32) 0 ≡ getD r ((i + 16) % 32) 0
-      turned i l = wrote-here j 0 32 i h (omega arith) (omega arith) l
-
       inside : (x : ℕ) → at ≤ x → x < at + 32 → getD (wrote j (writesFrom r at 0 32)) x 0 ≡ getD r (x - at) 0
       inside x a b =
-          let i : ℕ = (x - at + 16) % 32 in
-          let e : (i + 16) % 32 ≡ x - at = omega arith in
+          let i : ℕ = turnByte (x - at) in
           let q : at + (x - at) ≡ x = omega arith in
           subst (λ (y : ℕ). getD (wrote j (writesFrom r at 0 32)) y 0 ≡ getD r (x - at) 0) q
-          (subst (λ (y : ℕ). getD (wrote j (writesFrom r at 0 32)) (at + y) 0 ≡ getD r y 0) e (turned i (omega arith)))
+          (subst (λ (y : ℕ). getD (wrote j (writesFrom r at 0 32)) (at + y) 0 ≡ getD r y 0) (turn-back (x - at) (omega arith))
+          (wrote-here j 0 32 i h (omega arith) (omega arith) (turn-below (x - at))))
 
       byte : at + length r ≤ length j → (x : ℕ) → Dec (x < at) → Dec (x < at + 32) → getD (wrote j (recordWrites r at)) x 0 ≡ getD (put j at r) x 0
       byte fits x (yes a) b = outside j 32 x (omega arith) (λ p q. omega arith) ∙ sym (put-before j r at fits x a)

@@ -114,7 +114,7 @@ pub fn record_of(serial: u32, clock: u32, amount: u32, label: u16, pan: &[u8]) -
     ]
 }
 
-// Writes a record into the slot at `at`, its state byte last: a cut in between leaves no held record of mixed contents.
+// Writes a record into the slot at `at`, its state byte last: the order in which memory that outlives the power is to be written.
 pub fn write_record(j: &mut [u8], at: usize, r: &[u8; 32])
     requires { ⌜ at + 32 ≤ length (now j) ⌝ }
     ensures { λ _. ⌜ now (j .exit) ≡ wrote (now (j .entry)) (recordWrites (now (r .entry)) at) ⌝ }
@@ -190,7 +190,7 @@ pub fn good(j: &[u8], at: usize, s: u32) -> bool
 
 // ---- the ring of slots
 
-// Where the record of serial s begins. The only division by the number of slots: walks go by `back` and `onward`.
+// Where the record of serial s begins. It divides by the number of slots; walks go by `back` and `onward`, which don't.
 pub fn place_of(n: usize, s: u32) -> usize
     requires { ⌜ (1 ≤ n) × (n ≤ 2048) ⌝ }
     ensures { λ r. ⌜ (r ≡ place n s) × (r + 32 ≤ 32 * n) ⌝ }

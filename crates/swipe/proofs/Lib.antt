@@ -1,3 +1,4 @@
 pub mod Cards
 pub mod Steps
 pub mod Laws
+pub mod Refusals

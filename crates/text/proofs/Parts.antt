@@ -6,7 +6,7 @@ use native.Mathlib.Omega.{arith}
 use lib.ListN.{length, take, drop, length-drop, drop-of-length-le}
 use lib.Seq.{take-nil, take-all}
 use denote.Ref.{RefT}
-use Rattle.text.specs.Parts.{PartOf}
+use Rattle.text.specs.Parts.{PartOf, PieceOf}
 
 -- two slices lie at the same place and hold the same bytes
 pub record Same (r q : RefT (List ℕ)) : Type 0 where
@@ -16,6 +16,9 @@ pub record Same (r q : RefT (List ℕ)) : Type 0 where
 
 pub part-one : (s r q : RefT (List ℕ)) (a n : ℕ) → PartOf s a n r → PartOf s a n q → Same r q
 part-one s r q a n f g = record { block = f .block ∙ sym (g .block); place = f .place ∙ sym (g .place); bytes = f .bytes ∙ sym (g .bytes) }
+
+pub piece-one : (s r q : RefT (List ℕ)) (at n : ℕ) → PieceOf s at n r → PieceOf s at n q → Same r q
+piece-one s r q at n f g = record { block = f .block ∙ sym (g .block); place = f .place ∙ sym (g .place); bytes = f .bytes ∙ sym (g .bytes) }
 
 -- a piece that starts at the end, and one that goes past it
 pub piece-none : (s : List ℕ) (at n : ℕ) → length s ≤ at → [] ≡ take n (drop at s)

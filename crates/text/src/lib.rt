@@ -2,9 +2,10 @@
 ghost use mathlib.Core.Path.{_≡_};
 ghost use mathlib.Core.Bool.{true};
 ghost use Prim.Native.Nat.{_+_, _-_, _≤_, _<_};
-ghost use lib.ListN.{length, getD, take, drop};
+ghost use lib.ListN.{length, getD};
 ghost use Rattle.text.specs.Bytes.{isDigit, isCapital, allDigits};
 ghost use Rattle.text.specs.Numbers.{u16At, u32At, le16, le32, put, decimal};
+ghost use Rattle.text.specs.Parts.{PieceOf};
 
 pub fn is_digit(b: u8) -> bool
     ensures { λ r. ⌜ r ≡ isDigit b ⌝ }
@@ -120,9 +121,9 @@ pub fn put_at(s: &mut [u8], at: usize, vs: &[u8])
     }
 }
 
-// The n bytes from `at`, fewer where the text ends.
+// The n bytes from `at`, fewer where the text ends: a part of it.
 pub fn piece(s: &[u8], at: usize, n: usize) -> &[u8]
-    ensures { λ r. ⌜ now r ≡ take n (drop at (now (s .entry))) ⌝ }
+    ensures { λ r. ⌜ PieceOf (s .entry) at n r ⌝ }
 {
     if s.len() <= at {
         return &s[..0];

@@ -20,13 +20,24 @@ use Rattle.journal.specs.Held.{recordAt, heldAfter, heldList, lowOf, firstOf}
 use Rattle.journal.specs.Rules.{Shows, tellRule}
 use Rattle.journal.proofs.Lists.{held-up}
 use Rattle.journal.proofs.Laws.{record-serial, shows-one}
+use Rattle.walker.specs.declared.Walker.{Walker}
 use Rattle.walker.specs.Walk.{heldHere, heldRule, nextOf, StartsAt, StartNumber, given, walk}
 use Rattle.walker.proofs.Held.{another, is-here, refused-here, next-last, next-held, next-not}
 
 -- ---- each call has one outcome
 
-pub one-start : (j : List ℕ) (x y : ℕ) → StartsAt j x → StartsAt j y → x ≡ y
-one-start j x y a b = let w = one-view j a b in w .1 ∙ sym (w .2)
+pub one-oldest : (j : List ℕ) (x y : ℕ) → StartsAt j x → StartsAt j y → x ≡ y
+one-oldest j x y a b = let w = one-view j a b in w .1 ∙ sym (w .2)
+
+pub one-next : (j : List ℕ) (s x y : ℕ) → x ≡ nextOf j s → y ≡ nextOf j s → x ≡ y
+one-next j s x y a b = a ∙ sym b
+
+-- two walkers with the same journal and the same serial are one
+same-walker : (v w : Walker) → v .journal ≡ w .journal → v .next ≡ w .next → v ≡ w
+same-walker v w a b = λ i. record { journal = a i; next = b i }
+
+pub one-start : (j : RefT (List ℕ)) (v w : Walker) → (v .journal ≡ j) × StartsAt (j .now) (v .next) → (w .journal ≡ j) × StartsAt (j .now) (w .next) → v ≡ w
+one-start j v w a b = same-walker v w (a .0 ∙ sym (b .0)) (one-oldest (j .now) (v .next) (w .next) (a .1) (b .1))
 
 pub one-start-number : (j : List ℕ) (x y : ℕ) → StartNumber j x → StartNumber j y → x ≡ y
 one-start-number j x y a b = let w = one-view j a b in w .1 ∙ sym (w .2)
@@ -34,8 +45,9 @@ one-start-number j x y a b = let w = one-view j a b in w .1 ∙ sym (w .2)
 pub one-record : (j r q : RefT (List ℕ)) (s : ℕ) → Shows j (heldRule (j .now) s) r → Shows j (heldRule (j .now) s) q → Same r q
 one-record j r q s a b = shows-one j r q (heldRule (j .now) s) (heldRule (j .now) s) refl a b
 
-pub one-move : (j : List ℕ) (s x y : ℕ) → x ≡ nextOf j s → y ≡ nextOf j s → x ≡ y
-one-move j s x y a b = a ∙ sym b
+pub one-move : (u v w : Walker) → (v .journal ≡ u .journal) × (v .next ≡ nextOf (u .journal .now) (u .next))
+    → (w .journal ≡ u .journal) × (w .next ≡ nextOf (u .journal .now) (u .next)) → v ≡ w
+one-move u v w a b = same-walker v w (a .0 ∙ sym (b .0)) (one-next (u .journal .now) (u .next) (v .next) (w .next) (a .1) (b .1))
 
 -- ---- the walk
 

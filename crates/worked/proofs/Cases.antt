@@ -1,14 +1,17 @@
 -- "To be proved together, as a single statement over a list": W1 to W13 hold, by computation. Assumes nothing.
-use Prim.Native.Nat.{ℕ}
+use Prim.Native.Nat.{ℕ, _≤_}
 use mathlib.Core.Path.{_≡_, refl, ap, _∙_}
+use mathlib.Core.Bool.{true}
 use mathlib.Core.List.{List}
 use native.Mathlib.Omega.{arith}
-use lib.ListN.{replicate}
-use Rattle.text.specs.Bytes.{bytesOf, isDigit, isCapital, every}
+use lib.ListN.{length, replicate}
+use borrow.Author.Tests.{le-leb}
+use Rattle.text.specs.Bytes.{bytesOf, isDigit, isCapital, every, allDigits}
 use Rattle.text.specs.Numbers.{le16, le32, put, decimalAfter}
-use Rattle.reasons.specs.Reasons.{gives}
+use Rattle.reasons.specs.Reasons.{gives, said}
+use Rattle.reasons.specs.declared.Tested.{Tested}
 use Rattle.luhn.specs.Luhn.{even, weighed, luhnSum, passes, luhnRule}
-use Rattle.pan.specs.Pan.{frontShown, backShown, masked}
+use Rattle.pan.specs.Pan.{panLength, frontShown, backShown, masked, maskRule, maskBytes, Masks}
 use Rattle.mod97.specs.Text.{number, inDecimal, written, numberAfter}
 use Rattle.mod97.specs.Pair.{pairDigits, pairOf, checks}
 use Rattle.creditor.specs.Creditor.{isPlain, laidOut as laidOutRF, creditorRule}
@@ -24,6 +27,14 @@ use Rattle.slots.proofs.Views.{view-one}
 use Rattle.journal.specs.Rules.{heldSlots, bookRule, bookBytes, Books, saidBooked}
 use Rattle.journal.specs.declared.Booked.{Booked}
 use Rattle.worked.specs.Cases.{All, all, _and_, Holds, cases, w11Case}
+
+-- what masking allows into an output that is long enough, for a PAN whose masked text is known
+masked-into : (pan text : List ℕ) → panLength (length pan) ≡ true → allDigits pan ≡ true → masked pan ≡ text
+    → (out : List ℕ) (r : Tested) (k : List ℕ) → length pan ≤ length out → Masks pan out r k → (said r ≡ gives tt) × (k ≡ put out 0 text)
+unfolding maskRule maskBytes
+masked-into pan text n d m out r k h f =
+    let room = le-leb (length pan) (length out) h in
+    (f .0 ∙ simp (n, d, room), f .1 ∙ simp (n, d, room, m))
 
 module _ (pan : List ℕ) (label amount clock : ℕ) (bytes : List ℕ) where
   -- what a booking in one empty slot allows is what its rule says at the view of no serial
@@ -44,6 +55,6 @@ unfolding isDigit isCapital every le16 le32 put decimalAfter even weighed luhnSu
 all-hold =
     refl and refl and refl and refl and refl and refl and refl and refl and refl and refl and refl and refl and refl and refl
     and w11
-    and refl
+    and masked-into (bytesOf "4111111111111111") _ refl refl refl
     and booked-empty (bytesOf "4111111111111111") 7 250 0 _ refl refl
     and all

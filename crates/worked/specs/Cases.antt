@@ -1,5 +1,5 @@
 -- The worked cases of document 01, as a list, and what it means that a case holds: over the definitions that the promises use. Assumes nothing.
-use Prim.Native.Nat.{ℕ, zero, suc, _+_, _-_, _/_, _%_}
+use Prim.Native.Nat.{ℕ, zero, suc, _+_, _-_, _/_, _%_, _≤_}
 use Prim.Native.String.{String}
 use mathlib.Core.Path.{_≡_}
 use mathlib.Core.Bool.{Bool, true, false}
@@ -8,9 +8,11 @@ use lib.Bits.{bitXor}
 use lib.Dec.{eqb}
 use lib.ListN.{length, take, drop, replicate}
 use Rattle.text.specs.Bytes.{bytesOf}
-use Rattle.reasons.specs.Reasons.{gives, refuses}
+use Rattle.text.specs.Numbers.{put}
+use Rattle.reasons.specs.Reasons.{gives, refuses, said}
+use Rattle.reasons.specs.declared.Tested.{Tested}
 use Rattle.luhn.specs.Luhn.{luhnRule}
-use Rattle.pan.specs.Pan.{masked}
+use Rattle.pan.specs.Pan.{Masks}
 use Rattle.creditor.specs.Creditor.{creditorRule}
 use Rattle.iban.specs.Iban.{ibanRule}
 use Rattle.bits.specs.Stream.{number, ones}
@@ -51,7 +53,7 @@ pub data Case : Type 0 where
   iban-passes : String → Case
   -- the track's characters with both sentinels: the LRC's number and bits, the count of characters and of bits with the LRC
   track : String → ℕ → List Bool → ℕ → ℕ → Case
-  -- masking a PAN gives a text
+  -- masking a PAN gives a text, at the front of any output that is long enough
   masks : String → String → Case
   -- booking a PAN with label, amount and clock in one empty slot leaves these bytes
   books : String → ℕ → ℕ → ℕ → List ℕ → Case
@@ -81,7 +83,8 @@ Holds (luhn-fails t) = luhnRule (bytesOf t) ≡ refuses 4
 Holds (creditor-passes t) = creditorRule (bytesOf t) ≡ gives tt
 Holds (iban-passes t) = ibanRule (bytesOf t) ≡ gives tt
 Holds (track t lrc bits count bit-count) = TrackHolds (bytesOf t) (inner (bytesOf t)) lrc bits count bit-count
-Holds (masks pan text) = masked (bytesOf pan) ≡ bytesOf text
+Holds (masks pan text) =
+    (out : List ℕ) (r : Tested) (k : List ℕ) → length (bytesOf pan) ≤ length out → Masks (bytesOf pan) out r k → (said r ≡ gives tt) × (k ≡ put out 0 (bytesOf text))
 Holds (books pan label amount clock bytes) =
     (r : Booked) (k : List ℕ) → Books (replicate 32 0) (bytesOf pan) label amount clock r k → (saidBooked r ≡ gives 1) × (k ≡ bytes)
 

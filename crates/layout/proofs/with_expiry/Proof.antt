@@ -14,7 +14,7 @@ due : (c : tie.After-due-at) (v : Due) → c .due-at .result ≡ v →
     saidDue (a .pan + 1) v ≡ fieldRule isExpiry 4 (a .chars .now) (a .pan + 1)
 due c v e =
     let t = c .before in
-    sym (ap (saidDue _) e) ∙ c .due-at .ensures isExpiry 4 (t .is-expiry .ensures ∙ ap isExpiry (t .before .piece .ensures))
+    sym (ap (saidDue _) e) ∙ c .due-at .ensures isExpiry 4 (t .is-expiry .ensures ∙ ap isExpiry (t .before .piece .ensures .bytes))
 
 add-at : tie.Need-add-at
 add-at c = search needs

@@ -13,10 +13,10 @@ all-digits-requires : tie.Need-all-digits-requires
 all-digits-requires c κs = search needs
 
 returns : tie.Need-returns
-returns c = rest-tested _ _ true (ap allDigits (sym (c .before .before .piece .ensures)) ∙ sym (c .before .all-digits .ensures) ∙ c .if1 .taken)
+returns c = rest-tested _ _ true (ap allDigits (sym (c .before .before .piece .ensures .bytes)) ∙ sym (c .before .all-digits .ensures) ∙ c .if1 .taken)
 
 returns-2 : tie.Need-returns-2
-returns-2 c = rest-tested _ _ false (ap allDigits (sym (c .before .before .piece .ensures)) ∙ sym (c .before .all-digits .ensures) ∙ c .if1 .left)
+returns-2 c = rest-tested _ _ false (ap allDigits (sym (c .before .before .piece .ensures .bytes)) ∙ sym (c .before .all-digits .ensures) ∙ c .if1 .left)
 
 pub with-rest-spec : {M : Type 1} → statement M
 with-rest-spec = tie.close (tie.spec piece-requires all-digits-requires returns returns-2)

@@ -13,7 +13,7 @@ due : (c : tie.After-due-at) (v : Due) → c .due-at .result ≡ v →
     saidDue (a .at) v ≡ fieldRule isService 3 (a .chars .now) (a .at)
 due c v e =
     let t = c .before in
-    sym (ap (saidDue _) e) ∙ c .due-at .ensures isService 3 (t .is-service .ensures ∙ ap isService (t .before .piece .ensures))
+    sym (ap (saidDue _) e) ∙ c .due-at .ensures isService 3 (t .is-service .ensures ∙ ap isService (t .before .piece .ensures .bytes))
 
 piece-requires : tie.Need-piece-requires
 piece-requires c κs = search needs

@@ -1,16 +1,16 @@
 -- `words`: each arm writes the paper's words of its reason. Assumes nothing.
 use borrow.Author.Tests.{leb-true}
-use mathlib.Core.Path.{refl, sym, ap, _∙_}
-use mathlib.Core.List.{List}
-use Prim.Native.Nat.{ℕ}
+use mathlib.Core.Path.{_≡_, refl, subst⁻¹}
 use Rattle.text.specs.Bytes.{bytesOf}
-use Rattle.reasons.specs.Reasons.{wordsOf}
+use Rattle.reasons.specs.Reasons.{wordsOf, Phrases}
 use Rattle.reasons.specs.declared.Reason.{Reason}
+use Rattle.reasons.specs.declared.Phrase.{Phrase}
 use Rattle.reasons.proofs.words.Statement.{statement}
 use Rattle.reasons.proofs.words.Tie as tie
 
-abbrev phrase : Reason → List ℕ
-phrase r = bytesOf (wordsOf r)
+-- the words of a reason that is known to be q
+of-reason : (r q : Reason) (w : Phrase) → r ≡ q → Phrases (bytesOf (wordsOf q)) w → Phrases (bytesOf (wordsOf r)) w
+of-reason r q w e h = subst⁻¹ (λ (x : Reason). Phrases (bytesOf (wordsOf x)) w) e h
 
 enum-told : tie.Need-enum-told
 enum-told c = c .match .keys1
@@ -193,64 +193,64 @@ told-requires-20 : tie.Need-told-requires-20
 told-requires-20 c κs = leb-true _ _ refl
 
 returns : tie.Need-returns
-returns c = (c .told .ensures .0, c .told .ensures .1 ∙ sym (ap phrase (c .before .before .enum-told .given .1)))
+returns c = of-reason _ _ _ (c .before .before .enum-told .given .1) (c .told .ensures)
 
 returns-2 : tie.Need-returns-2
-returns-2 c = (c .told2 .ensures .0, c .told2 .ensures .1 ∙ sym (ap phrase (c .before .before .enum-told2 .given .1)))
+returns-2 c = of-reason _ _ _ (c .before .before .enum-told2 .given .1) (c .told2 .ensures)
 
 returns-3 : tie.Need-returns-3
-returns-3 c = (c .told3 .ensures .0, c .told3 .ensures .1 ∙ sym (ap phrase (c .before .before .enum-told3 .given .1)))
+returns-3 c = of-reason _ _ _ (c .before .before .enum-told3 .given .1) (c .told3 .ensures)
 
 returns-4 : tie.Need-returns-4
-returns-4 c = (c .told4 .ensures .0, c .told4 .ensures .1 ∙ sym (ap phrase (c .before .before .enum-told4 .given .1)))
+returns-4 c = of-reason _ _ _ (c .before .before .enum-told4 .given .1) (c .told4 .ensures)
 
 returns-5 : tie.Need-returns-5
-returns-5 c = (c .told5 .ensures .0, c .told5 .ensures .1 ∙ sym (ap phrase (c .before .before .enum-told5 .given .1)))
+returns-5 c = of-reason _ _ _ (c .before .before .enum-told5 .given .1) (c .told5 .ensures)
 
 returns-6 : tie.Need-returns-6
-returns-6 c = (c .told6 .ensures .0, c .told6 .ensures .1 ∙ sym (ap phrase (c .before .before .enum-told6 .given .1)))
+returns-6 c = of-reason _ _ _ (c .before .before .enum-told6 .given .1) (c .told6 .ensures)
 
 returns-7 : tie.Need-returns-7
-returns-7 c = (c .told7 .ensures .0, c .told7 .ensures .1 ∙ sym (ap phrase (c .before .before .enum-told7 .given .1)))
+returns-7 c = of-reason _ _ _ (c .before .before .enum-told7 .given .1) (c .told7 .ensures)
 
 returns-8 : tie.Need-returns-8
-returns-8 c = (c .told8 .ensures .0, c .told8 .ensures .1 ∙ sym (ap phrase (c .before .before .enum-told8 .given .1)))
+returns-8 c = of-reason _ _ _ (c .before .before .enum-told8 .given .1) (c .told8 .ensures)
 
 returns-9 : tie.Need-returns-9
-returns-9 c = (c .told9 .ensures .0, c .told9 .ensures .1 ∙ sym (ap phrase (c .before .before .enum-told9 .given .1)))
+returns-9 c = of-reason _ _ _ (c .before .before .enum-told9 .given .1) (c .told9 .ensures)
 
 returns-10 : tie.Need-returns-10
-returns-10 c = (c .told10 .ensures .0, c .told10 .ensures .1 ∙ sym (ap phrase (c .before .before .enum-told10 .given .1)))
+returns-10 c = of-reason _ _ _ (c .before .before .enum-told10 .given .1) (c .told10 .ensures)
 
 returns-11 : tie.Need-returns-11
-returns-11 c = (c .told11 .ensures .0, c .told11 .ensures .1 ∙ sym (ap phrase (c .before .before .enum-told11 .given .1)))
+returns-11 c = of-reason _ _ _ (c .before .before .enum-told11 .given .1) (c .told11 .ensures)
 
 returns-12 : tie.Need-returns-12
-returns-12 c = (c .told12 .ensures .0, c .told12 .ensures .1 ∙ sym (ap phrase (c .before .before .enum-told12 .given .1)))
+returns-12 c = of-reason _ _ _ (c .before .before .enum-told12 .given .1) (c .told12 .ensures)
 
 returns-13 : tie.Need-returns-13
-returns-13 c = (c .told13 .ensures .0, c .told13 .ensures .1 ∙ sym (ap phrase (c .before .before .enum-told13 .given .1)))
+returns-13 c = of-reason _ _ _ (c .before .before .enum-told13 .given .1) (c .told13 .ensures)
 
 returns-14 : tie.Need-returns-14
-returns-14 c = (c .told14 .ensures .0, c .told14 .ensures .1 ∙ sym (ap phrase (c .before .before .enum-told14 .given .1)))
+returns-14 c = of-reason _ _ _ (c .before .before .enum-told14 .given .1) (c .told14 .ensures)
 
 returns-15 : tie.Need-returns-15
-returns-15 c = (c .told15 .ensures .0, c .told15 .ensures .1 ∙ sym (ap phrase (c .before .before .enum-told15 .given .1)))
+returns-15 c = of-reason _ _ _ (c .before .before .enum-told15 .given .1) (c .told15 .ensures)
 
 returns-16 : tie.Need-returns-16
-returns-16 c = (c .told16 .ensures .0, c .told16 .ensures .1 ∙ sym (ap phrase (c .before .before .enum-told16 .given .1)))
+returns-16 c = of-reason _ _ _ (c .before .before .enum-told16 .given .1) (c .told16 .ensures)
 
 returns-17 : tie.Need-returns-17
-returns-17 c = (c .told17 .ensures .0, c .told17 .ensures .1 ∙ sym (ap phrase (c .before .before .enum-told17 .given .1)))
+returns-17 c = of-reason _ _ _ (c .before .before .enum-told17 .given .1) (c .told17 .ensures)
 
 returns-18 : tie.Need-returns-18
-returns-18 c = (c .told18 .ensures .0, c .told18 .ensures .1 ∙ sym (ap phrase (c .before .before .enum-told18 .given .1)))
+returns-18 c = of-reason _ _ _ (c .before .before .enum-told18 .given .1) (c .told18 .ensures)
 
 returns-19 : tie.Need-returns-19
-returns-19 c = (c .told19 .ensures .0, c .told19 .ensures .1 ∙ sym (ap phrase (c .before .before .enum-told19 .given .1)))
+returns-19 c = of-reason _ _ _ (c .before .before .enum-told19 .given .1) (c .told19 .ensures)
 
 returns-20 : tie.Need-returns-20
-returns-20 c = (c .told20 .ensures .0, c .told20 .ensures .1 ∙ sym (ap phrase (c .before .before .enum-told20 .given .1)))
+returns-20 c = of-reason _ _ _ (c .before .before .enum-told20 .given .1) (c .told20 .ensures)
 
 pub words-spec : {M : Type 1} → statement M
 words-spec =

@@ -2,7 +2,7 @@ use Prim.Native.Nat.{_≤_, _-_}
 use mathlib.Core.Path.{_≡_, refl, ap, _∙_}
 use native.Mathlib.Omega.{arith}
 use lib.ListN.{length, take, length-set}
-use Rattle.slots.specs.Writes.{wrote, recordWrites}
+use Rattle.slots.specs.Writes.{wrote, turnByte, recordWrites}
 use Rattle.slots.proofs.Writes.{write-turn, write-done}
 use Rattle.slots.proofs.write_record.Statement.{statement}
 use Rattle.slots.proofs.write_record.Tie as tie
@@ -36,6 +36,7 @@ loop-less : tie.Need-loop-less Inv-loop μ-loop
 loop-less c = omega arith
 
 loop-again : tie.Need-loop-again Inv-loop μ-loop
+unfolding turnByte
 loop-again c = let l = c .before .before .loop in
     (omega arith, simp length-set (l .inv .1), write-turn _ _ _ _ (l .k) _ refl (omega arith) (l .inv .2))
 

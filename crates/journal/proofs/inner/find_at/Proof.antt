@@ -1,8 +1,11 @@
-use native.Mathlib.Omega.{arith}
-use mathlib.Core.Path.{sym, ap, _∙_}
+use Prim.Native.Nat.{ℕ, _+_}
+use mathlib.Core.Path.{_≡_, sym, ap, _∙_}
+use borrow.Author.Tests.{not-true, not-false}
+use Rattle.text.specs.Bytes.{within}
+use Rattle.journal.specs.Held.{lowOf}
 use Rattle.slots.proofs.Passed.{held-at}
 use Rattle.reasons.specs.Reasons.{gives}
-use Rattle.journal.proofs.Rule.{show-low, show-high, show-free, show-done}
+use Rattle.journal.proofs.Rule.{show-none, show-free, show-done}
 use Rattle.journal.proofs.inner.find_at.Statement.{statement}
 use borrow.Author.Needs.{needs}
 use Rattle.journal.proofs.inner.find_at.Tie as tie
@@ -10,11 +13,19 @@ use Rattle.journal.proofs.inner.find_at.Tie as tie
 floor-of-requires : tie.Need-floor-of-requires
 floor-of-requires c κs = search needs
 
-returns : tie.Need-returns
-returns c = show-low _ _ _ (omega arith)
+is-after-requires : tie.Need-is-after-requires
+is-after-requires c κs = search needs
 
-returns-2 : tie.Need-returns-2
-returns-2 c = show-high _ _ _ (omega arith)
+-- whether the serial is one that the journal keeps
+kept : (c : tie.After-is-after) →
+    let a = c .before .before .before .args in
+    c .is-after .result ≡ within (lowOf (a .j .now) (a .b) + 1) (a .b) (a .s)
+kept c =
+    let a = c .before .before .before .args in
+    c .is-after .ensures ∙ ap (λ (x : ℕ). within (x + 1) (a .b) (a .s)) (c .before .floor-of .ensures)
+
+returns : tie.Need-returns
+returns c = show-none _ _ _ (sym (kept (c .before)) ∙ not-true _ (c .if1 .taken))
 
 place-of-requires : tie.Need-place-of-requires
 place-of-requires c κs = search needs
@@ -28,32 +39,32 @@ shared-slice-read-is-held c = search needs
 is-held-requires : tie.Need-is-held-requires
 is-held-requires c κs = search needs
 
+returns-2 : tie.Need-returns-2
+returns-2 c =
+    let at-place = c .before .before .before in
+    let tested = at-place .before in
+    let j = tested .before .before .before .before .args .j .now in
+    let e = at-place .place-of .ensures .0 in
+    ap gives e ∙ show-done j _ _ (sym (kept (tested .before)) ∙ not-false _ (tested .if1 .left)) (sym (held-at j _ _ _ _ e (c .before .is-held .ensures)) ∙ c .if2 .taken)
+
 returns-3 : tie.Need-returns-3
 returns-3 c =
     let at-place = c .before .before .before in
-    let start = at-place .before .before .before .before .before in
-    let j = start .args .j .now in
+    let tested = at-place .before in
+    let j = tested .before .before .before .before .args .j .now in
     let e = at-place .place-of .ensures .0 in
-    ap gives e ∙ show-done j _ _ (omega arith) (omega arith) (sym (held-at j _ _ _ _ e (c .before .is-held .ensures)) ∙ c .if3 .taken)
-
-returns-4 : tie.Need-returns-4
-returns-4 c =
-    let at-place = c .before .before .before in
-    let start = at-place .before .before .before .before .before in
-    let j = start .args .j .now in
-    let e = at-place .place-of .ensures .0 in
-    show-free j _ _ (omega arith) (omega arith) (sym (held-at j _ _ _ _ e (c .before .is-held .ensures)) ∙ c .if3 .left)
+    show-free j _ _ (sym (kept (tested .before)) ∙ not-false _ (tested .if1 .left)) (sym (held-at j _ _ _ _ e (c .before .is-held .ensures)) ∙ c .if2 .left)
 
 pub find-at-spec : {M : Type 1} → statement M
 find-at-spec =
     tie.close
     (tie.spec
     floor-of-requires
+    is-after-requires
     returns
-    returns-2
     place-of-requires
     add-is-held
     shared-slice-read-is-held
     is-held-requires
-    returns-3
-    returns-4)
+    returns-2
+    returns-3)
