@@ -1,7 +1,7 @@
 -- `bytes`: what is understood fits into the room. Assumes nothing.
+use Rattle.script.proofs.Laws.{bytes-fit}
 use borrow.Author.Needs.{needs}
 use native.Mathlib.Omega.{arith}
-use Rattle.script.proofs.Laws.{bytes-fit}
 use Rattle.say.proofs.fields.bytes.Statement.{statement}
 use Rattle.say.proofs.fields.bytes.Tie as tie
 
@@ -38,6 +38,9 @@ returns c = let h = bytes-fit _ _ _ _ (c .before .before .before .before .before
 same-length-2 : tie.Need-same-length-2
 same-length-2 c = search needs
 
+same-length-3 : tie.Need-same-length-3
+same-length-3 c = search needs
+
 returns-2 : tie.Need-returns-2
 returns-2 c = search needs
 
@@ -56,4 +59,5 @@ bytes-spec =
     same-length
     returns
     same-length-2
+    same-length-3
     returns-2)
