@@ -69,15 +69,22 @@ pub fn fills_none() -> Filled
     }
 }
 
-// Word 1 of a line as bytes, into the front of a buffer.
-pub fn bytes(out: &mut [u8], text: &[u8], room: &mut [u8]) -> Filled
+// A word as bytes, into the front of a buffer.
+pub fn bytes_of(out: &mut [u8], word: &[u8], room: &mut [u8]) -> Filled
     ensures { λ r. ⌜ r .length ≤ length (now (room .exit)) ⌝ }
 {
-    match script::bytes_in(script::text_of(script::word(text, 1)), room) {
+    match script::bytes_in(script::text_of(word), room) {
         Bytes::Count(length) => fills(length),
         Bytes::Isnt(why) => {
             unclear_word(out, why);
             fills_none()
         }
     }
+}
+
+// Word 1 of a line as bytes.
+pub fn bytes(out: &mut [u8], text: &[u8], room: &mut [u8]) -> Filled
+    ensures { λ r. ⌜ r .length ≤ length (now (room .exit)) ⌝ }
+{
+    bytes_of(out, script::word(text, 1), room)
 }

@@ -23,6 +23,12 @@ pub fn number(out: &mut [u8], n: u64) {
     words(out, &digits[..k]);
 }
 
+// A number with its name before it.
+pub fn value(out: &mut [u8], name: &[u8], n: u64) {
+    words(out, name);
+    number(out, n);
+}
+
 pub fn line(out: &mut [u8]) {
     words(out, b"\n");
 }
@@ -34,6 +40,12 @@ pub fn text(out: &mut [u8], s: &[u8]) {
     } else {
         words(out, s);
     }
+}
+
+// A text with its name before it.
+pub fn named(out: &mut [u8], name: &[u8], s: &[u8]) {
+    words(out, name);
+    text(out, s);
 }
 
 fn pair(out: &mut [u8], b: u8) {
@@ -60,8 +72,7 @@ fn phrase(out: &mut [u8], p: Phrase)
 
 // A refusal without the end of its line: its number and the paper's words.
 pub fn refusal(out: &mut [u8], why: Reason) {
-    words(out, b"refused ");
-    number(out, reasons::number(why) as u64);
+    value(out, b"refused ", reasons::number(why) as u64);
     words(out, b": ");
     phrase(out, reasons::words(why));
 }
