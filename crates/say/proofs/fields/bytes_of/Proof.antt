@@ -1,12 +1,9 @@
--- `bytes`: what is understood fits into the room. Assumes nothing.
+-- `bytes_of`: what is understood fits into the room. Assumes nothing.
+use Rattle.script.proofs.Laws.{bytes-fit}
 use borrow.Author.Needs.{needs}
 use native.Mathlib.Omega.{arith}
-use Rattle.script.proofs.Laws.{bytes-fit}
-use Rattle.say.proofs.fields.bytes.Statement.{statement}
-use Rattle.say.proofs.fields.bytes.Tie as tie
-
-word-requires : tie.Need-word-requires
-word-requires c κs = search needs
+use Rattle.say.proofs.fields.bytes_of.Statement.{statement}
+use Rattle.say.proofs.fields.bytes_of.Tie as tie
 
 text-of-requires : tie.Need-text-of-requires
 text-of-requires c κs = search needs
@@ -38,14 +35,16 @@ returns c = let h = bytes-fit _ _ _ _ (c .before .before .before .before .before
 same-length-2 : tie.Need-same-length-2
 same-length-2 c = search needs
 
+same-length-3 : tie.Need-same-length-3
+same-length-3 c = search needs
+
 returns-2 : tie.Need-returns-2
 returns-2 c = search needs
 
-pub bytes-spec : {M : Type 1} → statement M
-bytes-spec =
+pub bytes-of-spec : {M : Type 1} → statement M
+bytes-of-spec =
     tie.close
     (tie.spec
-    word-requires
     text-of-requires
     bytes-in-requires
     enum-known-length
@@ -56,4 +55,5 @@ bytes-spec =
     same-length
     returns
     same-length-2
+    same-length-3
     returns-2)
