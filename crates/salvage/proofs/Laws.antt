@@ -16,12 +16,14 @@ use Rattle.slots.specs.declared.Newest.the-variants.{Is}
 use Rattle.slots.proofs.Form.{is-sized}
 use Rattle.journal.specs.Survey.{SlotIs, free, held, released, damaged}
 use Rattle.salvage.specs.Slot.{toldOf, toldAt, lookRule, saidLooked, surveyByte}
-use Rattle.salvage.specs.Whole.{newestOf, oldestOf, agreeRule, saidAgreed, due, verdictOf, verdictAt, judgeRule, saidJudged}
+use Rattle.salvage.specs.Whole.{newestOf, oldestOf, agreeRule, saidAgreed, countRule, saidCounted, due, verdictOf, verdictAt, judgeRule, saidJudged}
 use Rattle.salvage.specs.declared.Slot.{Slot}
 use Rattle.salvage.specs.declared.Looked.{Looked}
 use Rattle.salvage.specs.declared.Looked.the-variants as looked
 use Rattle.salvage.specs.declared.Agreed.{Agreed}
 use Rattle.salvage.specs.declared.Agreed.the-variants as agreed
+use Rattle.salvage.specs.declared.Counted.{Counted}
+use Rattle.salvage.specs.declared.Counted.the-variants as counting
 use Rattle.salvage.specs.declared.Verdict.the-variants as verdict
 use Rattle.salvage.specs.declared.Judged.{Judged}
 use Rattle.salvage.specs.declared.Judged.the-variants as judged
@@ -113,18 +115,27 @@ agreed-one (agreed.On b h) (agreed.Refused w) e = gives-refuses (b, h) (numberOf
 agreed-one (agreed.Refused v) (agreed.On c g) e = gives-refuses (c, g) (numberOf v) (sym e)
 agreed-one (agreed.Refused v) (agreed.Refused w) e = ap agreed.Refused (refuses-one v w e)
 
+counted-one : (r q : Counted) → saidCounted r ≡ saidCounted q → r ≡ q
+counted-one (counting.Of c) (counting.Of d) e = cc
+counted-one (counting.Of c) (counting.Refused b) e = gives-refuses c (numberOf b) e
+counted-one (counting.Refused a) (counting.Of d) e = gives-refuses d (numberOf a) (sym e)
+counted-one (counting.Refused a) (counting.Refused b) e = ap counting.Refused (refuses-one a b e)
+
 judged-one : (r q : Judged) → saidJudged r ≡ saidJudged q → r ≡ q
 judged-one (judged.Is v) (judged.Is w) e = cc
 judged-one (judged.Is v) (judged.Refused b) e = gives-refuses v (numberOf b) e
 judged-one (judged.Refused a) (judged.Is w) e = gives-refuses w (numberOf a) (sym e)
 judged-one (judged.Refused a) (judged.Refused b) e = ap judged.Refused (refuses-one a b e)
 
--- look, agree and judge: any two outcomes that the promise allows are equal
+-- look, agree, count and judge: any two outcomes that the promise allows are equal
 pub one-look : (j : List ℕ) (k : ℕ) (r q : Looked) → saidLooked r ≡ lookRule j k → saidLooked q ≡ lookRule j k → r ≡ q
 one-look j k r q a b = looked-one r q (a ∙ sym b)
 
 pub one-agree : (j : List ℕ) (r q : Agreed) → saidAgreed r ≡ agreeRule j → saidAgreed q ≡ agreeRule j → r ≡ q
 one-agree j r q a b = agreed-one r q (a ∙ sym b)
+
+pub one-count : (j : List ℕ) (r q : Counted) → saidCounted r ≡ countRule j → saidCounted q ≡ countRule j → r ≡ q
+one-count j r q a b = counted-one r q (a ∙ sym b)
 
 pub one-judge : (j : List ℕ) (k b h : ℕ) (r q : Judged) → saidJudged r ≡ judgeRule j k b h → saidJudged q ≡ judgeRule j k b h → r ≡ q
 one-judge j k b h r q u v = judged-one r q (u ∙ sym v)

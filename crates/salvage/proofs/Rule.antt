@@ -13,7 +13,7 @@ use Rattle.slots.specs.Record.{isHeld, stateAt}
 use Rattle.slots.specs.Journal.{slotsOf, sized}
 use Rattle.text.specs.Bytes.{every}
 use Rattle.salvage.specs.Slot.{isZero, fieldsOf, testsOf, passes, toldOf, toldAt, lookRule}
-use Rattle.salvage.specs.Whole.{agrees, preferred, lower, due, freeVerdict, heldVerdict, releasedVerdict, agreeRule, newestOf, oldestOf}
+use Rattle.salvage.specs.Whole.{agrees, preferred, lower, due, freeVerdict, heldVerdict, releasedVerdict, agreeRule, newestOf, oldestOf, countOf, countRule}
 use Rattle.salvage.specs.declared.Slot.{Slot}
 use Rattle.salvage.specs.declared.Slot.the-variants.{Free, Held, Released, Damaged}
 use Rattle.salvage.specs.declared.inner.Poll.{Poll}
@@ -144,3 +144,11 @@ agree-length j e = simp e
 pub agree-on : (j : List ℕ) → sized (length j) ≡ true → gives (newestOf j, oldestOf j (newestOf j)) ≡ agreeRule j
 unfolding agreeRule
 agree-on j e = simp e
+
+pub count-length : (j : List ℕ) → sized (length j) ≡ false → refuses 16 ≡ countRule j
+unfolding countRule
+count-length j e = simp e
+
+pub count-all : (j : List ℕ) → sized (length j) ≡ true → gives (countOf (toldAt j) (slotsOf j)) ≡ countRule j
+unfolding countRule
+count-all j e = simp e

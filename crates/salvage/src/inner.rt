@@ -1,15 +1,16 @@
 // A slot's tests, the votes for the newest serial, and the verdict on a slot.
+use crate::Counts;
 use crate::Fields;
 use crate::Slot;
 use crate::Tests;
 use crate::Verdict;
 ghost use mathlib.Core.Path.{_≡_};
 ghost use mathlib.Core.Bool.{true, cond};
-ghost use Prim.Native.Nat.{ℕ, _≤_, _<_};
+ghost use Prim.Native.Nat.{ℕ, _+_, _*_, _≤_, _<_};
 ghost use lib.ListN.{length, getD};
 ghost use Rattle.slots.specs.Journal.{slotsOf, sized};
 ghost use Rattle.salvage.specs.Slot.{fieldsOf, testsOf, passes, toldOf, toldAt};
-ghost use Rattle.salvage.specs.Whole.{serialIn, heldIn, agrees, votes, pollOf, preferred, leader, Serials, newestOf, lower, oldestOf};
+ghost use Rattle.salvage.specs.Whole.{serialIn, heldIn, agrees, votes, pollOf, preferred, leader, Serials, newestOf, lower, oldestOf, counted, countOf};
 ghost use Rattle.salvage.specs.Whole.{due, freeVerdict, heldVerdict, releasedVerdict, verdictOf};
 
 // ---- one slot
@@ -250,6 +251,55 @@ pub fn oldest(j: &[u8], b: u32) -> u32
         k += 1;
     }
     low
+}
+
+// ---- what the slots come to
+
+// With the slot s counted in.
+fn with_slot(c: Counts, s: Slot) -> Counts
+    requires { ⌜ (c .held < 2048) × (c .released < 2048) × (c .damaged < 2048) × (c .sum ≤ 4294967295 * c .held) ⌝ }
+    ensures { λ r. ⌜ (r ≡ counted c s) × (r .sum ≤ 4294967295 * r .held) × (r .held ≤ c .held + 1) × (r .released ≤ c .released + 1) × (r .damaged ≤ c .damaged + 1) ⌝ }
+{
+    match s {
+        Slot::Free => c,
+        Slot::Held(f) => Counts {
+            held: c.held + 1,
+            sum: c.sum + f.amount as u64,
+            released: c.released,
+            damaged: c.damaged,
+        },
+        Slot::Released(_) => Counts {
+            held: c.held,
+            sum: c.sum,
+            released: c.released + 1,
+            damaged: c.damaged,
+        },
+        Slot::Damaged(_, _) => Counts {
+            held: c.held,
+            sum: c.sum,
+            released: c.released,
+            damaged: c.damaged + 1,
+        },
+    }
+}
+
+pub fn counts(j: &[u8]) -> Counts
+    requires { ⌜ sized (length (now j)) ≡ true ⌝ }
+    ensures { λ r. ⌜ r ≡ countOf (toldAt (now (j .entry))) (slotsOf (now (j .entry))) ⌝ }
+{
+    let n = j.len() / 32;
+    let mut c = Counts {
+        held: 0,
+        sum: 0,
+        released: 0,
+        damaged: 0,
+    };
+    let mut k = 0;
+    while k < n {
+        c = with_slot(c, told_at(j, k));
+        k += 1;
+    }
+    c
 }
 
 // ---- the verdict

@@ -6,7 +6,7 @@ pub mod inner;
 
 ghost use mathlib.Core.Path.{_≡_};
 ghost use Rattle.salvage.specs.Slot.{lookRule, saidLooked};
-ghost use Rattle.salvage.specs.Whole.{agreeRule, saidAgreed, judgeRule, saidJudged};
+ghost use Rattle.salvage.specs.Whole.{agreeRule, saidAgreed, countRule, saidCounted, judgeRule, saidJudged};
 
 // The numbers that stand in a slot, damaged or not.
 pub struct Fields {
@@ -49,6 +49,19 @@ pub enum Agreed {
     Refused(Reason),
 }
 
+// How many slots are held, released and damaged, and the sum of the held amounts.
+pub struct Counts {
+    pub held: u32,
+    pub sum: u64,
+    pub released: u32,
+    pub damaged: u32,
+}
+
+pub enum Counted {
+    Of(Counts),
+    Refused(Reason),
+}
+
 // What is wrong with a slot as a part of the whole: the serial that is missing; the serial that belongs in a damaged slot, 0 for none; the serial
 // of a record that doesn't agree about the newest; the serial of a released record, and that of a held one below it.
 pub enum Verdict {
@@ -86,6 +99,16 @@ pub fn agree(j: &[u8]) -> Agreed
     }
     let b = inner::newest(j);
     Agreed::On(b, inner::oldest(j, b))
+}
+
+// What the slots come to.
+pub fn count(j: &[u8]) -> Counted
+    ensures { λ r. ⌜ saidCounted r ≡ countRule (now (j .entry)) ⌝ }
+{
+    if !slots::is_sized(j.len()) {
+        return Counted::Refused(Reason::BadJournal);
+    }
+    Counted::Of(inner::counts(j))
 }
 
 // What is wrong with slot k, newest being the newest serial and oldest the oldest held one.
