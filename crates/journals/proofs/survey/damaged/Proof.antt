@@ -2,20 +2,21 @@
 use Prim.Native.Nat.{_≤_, _-_}
 use borrow.Author.Needs.{needs}
 use lib.ListN.{length}
-use Rattle.payments.proofs.damaged.Statement.{statement}
-use Rattle.payments.proofs.damaged.Tie as tie
+use mathlib.Core.Path.{_≡_}
+use Rattle.journals.proofs.survey.damaged.Statement.{statement}
+use Rattle.journals.proofs.survey.damaged.Tie as tie
 
 abbrev Inv-loop : tie.InvT-loop
-Inv-loop journal states k₀ k = k ≤ length states
+Inv-loop out₀ journal states k₀ out k = (k ≤ length states) × (length out ≡ length out₀)
 
 abbrev μ-loop : tie.MeasureT-loop
-μ-loop journal states k₀ k = length states - k
+μ-loop out₀ journal states k₀ out k = length states - k
 
 loop-holds : tie.Need-loop-holds Inv-loop μ-loop
 loop-holds c = search needs
 
-shared-slice-read-if1 : tie.Need-shared-slice-read-if1 Inv-loop μ-loop
-shared-slice-read-if1 c = search needs
+shared-slice-read-damaged-slot : tie.Need-shared-slice-read-damaged-slot Inv-loop μ-loop
+shared-slice-read-damaged-slot c = search needs
 
 damaged-slot-requires : tie.Need-damaged-slot-requires Inv-loop μ-loop
 damaged-slot-requires c κs = search needs
@@ -29,6 +30,9 @@ loop-less c = search needs
 loop-again : tie.Need-loop-again Inv-loop μ-loop
 loop-again c = search needs
 
+same-length : tie.Need-same-length Inv-loop μ-loop
+same-length c = search needs
+
 returns : tie.Need-returns Inv-loop μ-loop
 returns c = search needs
 
@@ -39,9 +43,10 @@ damaged-spec =
     Inv-loop
     μ-loop
     loop-holds
-    shared-slice-read-if1
+    shared-slice-read-damaged-slot
     damaged-slot-requires
     add-k
     loop-less
     loop-again
+    same-length
     returns)

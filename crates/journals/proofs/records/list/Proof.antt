@@ -1,15 +1,16 @@
 -- `list`: no more lines than steps. Assumes nothing.
-use Prim.Native.Nat.{_+_, _/_, _≤_}
+use Prim.Native.Nat.{_≤_, _+_, _/_}
 use borrow.Author.Needs.{needs}
 use lib.ListN.{length}
-use Rattle.payments.proofs.list.Statement.{statement}
-use Rattle.payments.proofs.list.Tie as tie
+use mathlib.Core.Path.{_≡_}
+use Rattle.journals.proofs.records.list.Statement.{statement}
+use Rattle.journals.proofs.records.list.Tie as tie
 
 abbrev Inv-loop : tie.InvT-loop
-Inv-loop journal oldest count₀ serial₀ steps₀ count serial steps = count + steps ≤ length journal / 32
+Inv-loop out₀ journal oldest count₀ serial₀ steps₀ out count serial steps = (count + steps ≤ length journal / 32) × (length out ≡ length out₀)
 
 abbrev μ-loop : tie.MeasureT-loop
-μ-loop journal oldest count₀ serial₀ steps₀ count serial steps = steps
+μ-loop out₀ journal oldest count₀ serial₀ steps₀ out count serial steps = steps
 
 loop-holds : tie.Need-loop-holds Inv-loop μ-loop
 loop-holds c = search needs
@@ -35,6 +36,9 @@ loop-less c = search needs
 loop-again : tie.Need-loop-again Inv-loop μ-loop
 loop-again c = search needs
 
+same-length : tie.Need-same-length Inv-loop μ-loop
+same-length c = search needs
+
 returns : tie.Need-returns Inv-loop μ-loop
 returns c = search needs
 
@@ -52,4 +56,5 @@ list-spec =
     sub-steps
     loop-less
     loop-again
+    same-length
     returns)

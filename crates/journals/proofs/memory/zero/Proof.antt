@@ -4,8 +4,8 @@ use borrow.Author.Needs.{needs}
 use lib.ListN.{length, length-set}
 use mathlib.Core.Path.{_≡_}
 use native.Mathlib.Omega.{arith}
-use Rattle.payments.proofs.zero.Statement.{statement}
-use Rattle.payments.proofs.zero.Tie as tie
+use Rattle.journals.proofs.memory.zero.Statement.{statement}
+use Rattle.journals.proofs.memory.zero.Tie as tie
 
 abbrev Inv-loop : tie.InvT-loop
 Inv-loop journal₀ i₀ journal i = (i ≤ length journal) × (length journal ≡ length journal₀)

@@ -4,8 +4,8 @@ use borrow.Author.Needs.{needs}
 use lib.ListN.{length}
 use mathlib.Core.Logic.{⊎-elim}
 use native.Mathlib.Omega.{arith}
-use Rattle.payments.proofs.how_many.Statement.{statement}
-use Rattle.payments.proofs.how_many.Tie as tie
+use Rattle.journals.proofs.survey.how_many.Statement.{statement}
+use Rattle.journals.proofs.survey.how_many.Tie as tie
 
 abbrev Inv-loop : tie.InvT-loop
 Inv-loop states x n₀ i₀ n i = (i ≤ length states) × (n ≤ i)
