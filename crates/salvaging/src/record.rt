@@ -22,18 +22,21 @@ fn digits(out: &mut [u8], part: &[u8]) {
     }
 }
 
-// How many digits of a card number of n digits are hidden.
-fn hidden(n: u8) -> usize {
-    if n < 10 {
-        return 0;
+// A star for each hidden digit of a card number of n digits, `?` where n is no such number's length.
+fn stars(out: &mut [u8], n: u8) {
+    if n < 13 {
+        say::words(out, b"?");
+    } else if 19 < n {
+        say::words(out, b"?");
+    } else {
+        say::words(out, text::piece(b"*********", 0, (n - 10) as usize));
     }
-    (n - 10) as usize
 }
 
 fn card(out: &mut [u8], record: &[u8], length: u8) {
     say::words(out, b" card ");
     digits(out, text::piece(record, 16, 6));
-    say::words(out, text::piece(b"*********", 0, hidden(length)));
+    stars(out, length);
     digits(out, text::piece(record, 22, 4));
 }
 
@@ -89,8 +92,8 @@ fn faults(out: &mut [u8], f: Fields, t: Tests, n: usize) {
     fault_value(out, t.state, b"; state ", f.state as u64);
     fault(out, t.amount, b"; amount 0");
     fault_value(out, t.length, b"; card length ", f.length as u64);
-    fault(out, t.digits, b"; digits that are none");
-    fault(out, t.zeros, b"; bytes after the digits that are not 0");
+    fault(out, t.digits, b"; digits that are no digits");
+    fault(out, t.zeros, b"; zeros that are not 0");
 }
 
 // ---- the slot
