@@ -3,53 +3,52 @@ use bits::Read;
 use layout::Division;
 use say::fields;
 
-fn chars(count: usize, way: &[u8], out: &[u8]) {
-    say::words(b"read ");
-    say::number(count as u64);
-    say::words(way);
-    say::text(text::piece(out, 0, count));
-    say::line();
+fn chars(out: &mut [u8], way: &[u8], read: &[u8]) {
+    say::value(out, b"read ", read.len() as u64);
+    say::named(out, way, read);
+    say::line(out);
 }
 
-fn read(stream: &[u8], bits: u64) {
-    let mut out = [0u8; 37];
-    match track2::read(stream, bits, &mut out) {
-        Read::Forward(n) => chars(n, b" forward ", &out),
-        Read::Reversed(n) => chars(n, b" reversed ", &out),
-        Read::Refused(why) => say::refused(why),
+fn read(out: &mut [u8], stream: &[u8], bits: u64) {
+    let mut read = [0u8; 37];
+    match track2::read(stream, bits, &mut read) {
+        Read::Forward(n) => chars(out, b" forward ", text::piece(&read, 0, n)),
+        Read::Reversed(n) => chars(out, b" reversed ", text::piece(&read, 0, n)),
+        Read::Refused(why) => say::refused(out, why),
     }
 }
 
-pub fn track2(line: &[u8], stream: &mut [u8]) {
-    let filled = fields::bytes(line, stream);
+fn track2_in(out: &mut [u8], line: &[u8], stream: &mut [u8]) {
+    let filled = fields::bytes(out, line, stream);
     let clear = filled.clear;
     if !clear {
         return;
     }
-    let bits = fields::number(line, 2, 18446744073709551615);
+    let bits = fields::number(out, line, 2, 18446744073709551615);
     let known = bits.clear;
     if !known {
         return;
     }
     let n = filled.length;
-    read(&stream[0..n], bits.value);
+    read(out, &stream[0..n], bits.value);
 }
 
-fn parts(chars: &[u8]) {
-    say::words(b"pan ");
-    say::text(layout::pan_of(chars));
-    say::words(b" expiry ");
-    say::text(layout::expiry_of(chars));
-    say::words(b" service ");
-    say::text(layout::service_of(chars));
-    say::words(b" rest ");
-    say::text(layout::discretionary_of(chars));
-    say::line();
+pub fn track2(out: &mut [u8], line: &[u8]) {
+    let mut stream = [0u8; 70000];
+    track2_in(out, line, &mut stream);
 }
 
-pub fn divide(chars: &[u8]) {
+fn parts(out: &mut [u8], chars: &[u8]) {
+    say::named(out, b"pan ", layout::pan_of(chars));
+    say::named(out, b" expiry ", layout::expiry_of(chars));
+    say::named(out, b" service ", layout::service_of(chars));
+    say::named(out, b" rest ", layout::discretionary_of(chars));
+    say::line(out);
+}
+
+pub fn divide(out: &mut [u8], chars: &[u8]) {
     match layout::divide(chars) {
-        Division::Refused(why) => say::refused(why),
-        _ => parts(chars),
+        Division::Refused(why) => say::refused(out, why),
+        _ => parts(out, chars),
     }
 }

@@ -3,61 +3,63 @@ use luhn::Made as Digit;
 use mod97::Made;
 use reasons::Tested;
 
-pub fn luhn_test(text: &[u8]) {
-    say::tested(luhn::test(text));
+pub fn luhn_test(out: &mut [u8], text: &[u8]) {
+    say::tested(out, luhn::test(text));
 }
 
-pub fn luhn_make(body: &[u8]) {
+pub fn luhn_make(out: &mut [u8], body: &[u8]) {
     match luhn::make(body) {
         Digit::Digit(b) => {
             let digit = [b];
-            say::words(b"digit ");
-            say::words(&digit);
-            say::line();
+            say::named(out, b"digit ", &digit);
+            say::line(out);
         }
-        Digit::Refused(why) => say::refused(why),
+        Digit::Refused(why) => say::refused(out, why),
     }
 }
 
-pub fn iban_test(text: &[u8]) {
-    say::tested(iban::test(text));
+pub fn iban_test(out: &mut [u8], text: &[u8]) {
+    say::tested(out, iban::test(text));
 }
 
 // A check pair, two digits.
-fn made(m: Made) {
-    match m {
-        Made::Pair(pair) => {
-            say::words(b"pair ");
-            if pair < 10 {
-                say::words(b"0");
-            }
-            say::number(pair as u64);
-            say::line();
-        }
-        Made::Refused(why) => say::refused(why),
+fn pair(out: &mut [u8], n: u32) {
+    if n < 10 {
+        say::value(out, b"pair 0", n as u64);
+    } else {
+        say::value(out, b"pair ", n as u64);
     }
 }
 
-pub fn iban_make(country: &[u8], body: &[u8]) {
-    made(iban::make(country, body));
-}
-
-pub fn creditor_test(text: &[u8]) {
-    say::tested(creditor::test(text));
-}
-
-pub fn creditor_make(body: &[u8]) {
-    made(creditor::make(body));
-}
-
-pub fn mask(pan: &[u8]) {
-    let mut out = [0u8; 19];
-    match pan::mask(pan, &mut out) {
-        Tested::Passes => {
-            say::words(b"masked ");
-            say::words(text::piece(&out, 0, pan.len()));
-            say::line();
+fn made(out: &mut [u8], m: Made) {
+    match m {
+        Made::Pair(n) => {
+            pair(out, n);
+            say::line(out);
         }
-        Tested::Refused(why) => say::refused(why),
+        Made::Refused(why) => say::refused(out, why),
+    }
+}
+
+pub fn iban_make(out: &mut [u8], country: &[u8], body: &[u8]) {
+    made(out, iban::make(country, body));
+}
+
+pub fn creditor_test(out: &mut [u8], text: &[u8]) {
+    say::tested(out, creditor::test(text));
+}
+
+pub fn creditor_make(out: &mut [u8], body: &[u8]) {
+    made(out, creditor::make(body));
+}
+
+pub fn mask(out: &mut [u8], pan: &[u8]) {
+    let mut masked = [0u8; 19];
+    match pan::mask(pan, &mut masked) {
+        Tested::Passes => {
+            say::named(out, b"masked ", text::piece(&masked, 0, pan.len()));
+            say::line(out);
+        }
+        Tested::Refused(why) => say::refused(out, why),
     }
 }

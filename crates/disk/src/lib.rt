@@ -1,14 +1,15 @@
 // The journal's file: made where there is none, read once, changed in place.
 use libc::ENOENT;
+use libc::STDOUT_FILENO;
 ghost use Prim.Native.Nat.{_+_, _*_, _%_, _≤_, _<_};
 ghost use lib.ListN.{length};
 
 // A disk error is said in a line; the system's word for it goes to standard error.
 fn failed(what: &[u8]) {
     os::fail(b"card");
-    say::words(b"disk error: the journal could not be ");
-    say::words(what);
-    say::line();
+    io::write_all(STDOUT_FILENO, b"disk error: the journal could not be ");
+    io::write_all(STDOUT_FILENO, what);
+    io::write_all(STDOUT_FILENO, b"\n");
 }
 
 // How many bytes of the file were read, by a descriptor; lost where it can't be used.
@@ -198,23 +199,30 @@ fn run_of(k: usize, left: usize, n: usize) -> usize
     least(least(16 - k % 16, n - k), left)
 }
 
+// Whether what was to be written is on the disk; where it isn't, the system's word for it went to standard error.
+pub enum Stored {
+    Synced,
+    NotWritten,
+    NotSynced,
+}
+
 // Writes bytes in place, and sees them on the disk.
-fn put(fd: i32, at: usize, bytes: &[u8]) -> bool
+fn put(fd: i32, at: usize, bytes: &[u8]) -> Stored
     requires { ⌜ at ≤ 65536 ⌝ }
 {
     let got = libc::pwrite(fd, bytes, at as i64);
     if io::count(got, bytes) != bytes.len() {
-        failed(b"written");
-        return false;
+        os::fail(b"card");
+        return Stored::NotWritten;
     }
     if libc::fsync(fd) != 0 {
-        failed(b"synced");
-        return false;
+        os::fail(b"card");
+        return Stored::NotSynced;
     }
-    true
+    Stored::Synced
 }
 
-fn put_slots(fd: i32, journal: &[u8], k: usize, n: usize) -> bool
+fn put_slots(fd: i32, journal: &[u8], k: usize, n: usize) -> Stored
     requires { ⌜ (32 * (k + n) ≤ length (now journal)) × (k ≤ 2048) ⌝ }
 {
     let at = 32 * k;
@@ -225,23 +233,25 @@ fn put_slots(fd: i32, journal: &[u8], k: usize, n: usize) -> bool
 // Writes the records of `count` serials from `first` on, in the order of serials and no more than a sector at a time: each
 // sector is on the disk before the next is written, so that a cut leaves the first of them changed and the others as they were.
 // A journal of a wrong length is never touched.
-pub fn write(fd: i32, journal: &[u8], first: u32, count: u32) -> bool {
+pub fn write(fd: i32, journal: &[u8], first: u32, count: u32) -> Stored {
     if journal.len() < 32 {
-        return false;
+        return Stored::NotWritten;
     }
     if 65536 < journal.len() {
-        return false;
+        return Stored::NotWritten;
     }
     let n = journal.len() / 32;
     let mut k = (first as usize + n - 1) % n;
     let mut left = count as usize;
     while 0 < left {
         let r = run_of(k, left, n);
-        if !put_slots(fd, journal, k, r) {
-            return false;
+        match put_slots(fd, journal, k, r) {
+            Stored::Synced => {}
+            Stored::NotWritten => return Stored::NotWritten,
+            Stored::NotSynced => return Stored::NotSynced,
         }
         k = round(k + r, n);
         left -= r;
     }
-    true
+    Stored::Synced
 }

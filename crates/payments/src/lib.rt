@@ -1,14 +1,10 @@
-// The commands on the journal, in memory or in a file: slots, journal, survey, book, swipe, release, show, tell, held.
+// The commands that change the journal, in memory or in a file: book, swipe, release. Each answers whether the journal can be used any more:
+// one that could not be written can't, so that nothing is told that the file may not hold.
+use disk::Stored;
 use journal::Booked;
 use journal::Released;
-use journal::Shown;
-use journal::Surveyed;
-use journal::Told;
 use say::fields;
-use say::fields::Filled;
 use swipe::Swiped;
-ghost use Prim.Native.Nat.{_+_, _≤_, _<_};
-ghost use lib.ListN.{length};
 
 // Where the journal is kept: in memory alone, or in a file too.
 pub struct Place {
@@ -16,156 +12,50 @@ pub struct Place {
     pub fd: i32,
 }
 
-// ---- slots, journal
-
-fn zero(journal: &mut [u8]) {
-    let mut i = 0;
-    while i < journal.len() {
-        journal[i] = 0;
-        i += 1;
+// Sees the records of `count` serials from `first` on in the file, where there is one: whether they are there.
+fn kept(out: &mut [u8], journal: &[u8], first: u32, count: u32, at: Place) -> bool {
+    let filed = at.filed;
+    if !filed {
+        return true;
     }
-}
-
-// A new, empty journal in memory: how many bytes it has.
-pub fn slots(line: &[u8], journal: &mut [u8]) -> Filled
-    requires { ⌜ 65536 ≤ length (now journal) ⌝ }
-    ensures { λ r. ⌜ r .length ≤ length (now (journal .exit)) ⌝ }
-{
-    let field = fields::number(line, 1, 4294967295);
-    let n = field.value;
-    let clear = field.clear;
-    if !clear {
-        return fields::fills_none();
-    }
-    if n == 0 {
-        fields::unclear(b"slots are 1 to 2048");
-        return fields::fills_none();
-    }
-    if 2048 < n {
-        fields::unclear(b"slots are 1 to 2048");
-        return fields::fills_none();
-    }
-    zero(journal);
-    say::words(b"slots ");
-    say::number(n);
-    say::line();
-    fields::fills(32 * (n as usize))
-}
-
-// A journal in memory with the bytes of a line: how many they are. It is surveyed at once.
-pub fn load(line: &[u8], journal: &mut [u8]) -> Filled
-    ensures { λ r. ⌜ r .length ≤ length (now (journal .exit)) ⌝ }
-{
-    let filled = fields::bytes(line, journal);
-    let clear = filled.clear;
-    let n = filled.length;
-    if clear {
-        survey(&journal[0..n]);
-    }
-    filled
-}
-
-// ---- survey
-
-// How many slots say x of themselves.
-fn how_many(states: &[u8], x: u8) -> usize {
-    let mut n = 0;
-    let mut i = 0;
-    while i < states.len() {
-        if states[i] == x {
-            n += 1;
+    match disk::write(at.fd, journal, first, count) {
+        Stored::Synced => true,
+        Stored::NotWritten => {
+            say::words(out, b"disk error: the journal could not be written\n");
+            false
         }
-        i += 1;
-    }
-    n
-}
-
-fn damaged_slot(journal: &[u8], k: usize)
-    requires { ⌜ k ≤ 2048 ⌝ }
-{
-    say::words(b"damaged ");
-    say::number(k as u64);
-    say::words(b" ");
-    say::hex(text::piece(journal, 32 * k, 32));
-    say::line();
-}
-
-fn damaged(journal: &[u8], states: &[u8])
-    requires { ⌜ length (now states) ≤ 2048 ⌝ }
-{
-    let mut k = 0;
-    while k < states.len() {
-        if states[k] == 3 {
-            damaged_slot(journal, k);
+        Stored::NotSynced => {
+            say::words(out, b"disk error: the journal could not be synced\n");
+            false
         }
-        k += 1;
     }
 }
 
-fn report(journal: &[u8], states: &[u8], form: &[u8])
-    requires { ⌜ length (now states) ≤ 2048 ⌝ }
-{
-    damaged(journal, states);
-    say::words(b"free ");
-    say::number(how_many(states, 0) as u64);
-    say::words(b" held ");
-    say::number(how_many(states, 1) as u64);
-    say::words(b" released ");
-    say::number(how_many(states, 2) as u64);
-    say::words(b" damaged ");
-    say::number(how_many(states, 3) as u64);
-    say::words(form);
-}
-
-// As many states as there are slots.
-fn surveyed<'a>(journal: &[u8], states: &'a [u8]) -> &'a [u8]
-    requires { ⌜ length (now states) ≤ 2048 ⌝ }
-    ensures { λ r. ⌜ length (now r) ≤ 2048 ⌝ }
-{
-    let n = journal.len() / 32;
-    if n < states.len() {
-        return &states[0..n];
-    }
-    states
-}
-
-fn survey_in(journal: &[u8], states: &mut [u8])
-    requires { ⌜ length (now states) ≤ 2048 ⌝ }
-{
-    match journal::survey(journal, states) {
-        Surveyed::Formed => report(journal, surveyed(journal, states), b" well formed\n"),
-        Surveyed::Malformed => report(journal, surveyed(journal, states), b" not well formed\n"),
-        Surveyed::Refused(why) => say::refused(why),
-    }
-}
-
-pub fn survey(journal: &[u8]) {
-    let mut states = [0u8; 2048];
-    survey_in(journal, &mut states);
-}
-
-// ---- book and swipe: these, and a release, answer whether the journal can be used any more. One that could not be written can't, so
-// that nothing is told that the file may not hold.
+// ---- book and swipe
 
 // Answers a booking once it is on the disk.
-fn booked(journal: &[u8], serial: u32, at: Place) -> bool {
-    let filed = at.filed;
-    if filed {
-        if !disk::write(at.fd, journal, serial, 1) {
-            return false;
-        }
+fn booked(out: &mut [u8], journal: &[u8], serial: u32, at: Place) -> bool {
+    if !kept(out, journal, serial, 1, at) {
+        return false;
     }
-    say::words(b"booked ");
-    say::number(serial as u64);
-    say::line();
+    say::value(out, b"booked ", serial as u64);
+    say::line(out);
     true
 }
 
-fn book_in(journal: &mut [u8], pan: &[u8], label: u16, amount: u32, clock: u32, at: Place) -> bool {
+fn book_in(
+    out: &mut [u8],
+    journal: &mut [u8],
+    pan: &[u8],
+    label: u16,
+    amount: u32,
+    clock: u32,
+    at: Place,
+) -> bool {
     match journal::book(journal, pan, label, amount, clock) {
-        Booked::Serial(serial) => booked(journal, serial, at),
+        Booked::Serial(serial) => booked(out, journal, serial, at),
         Booked::Refused(why) => {
-            say::refused(why);
+            say::refused(out, why);
             true
         }
     }
@@ -178,8 +68,8 @@ struct Sale {
     clock: u32,
 }
 
-fn sale_of(line: &[u8]) -> Sale {
-    let amount = fields::number(line, 3, 4294967295);
+fn sale_of(out: &mut [u8], line: &[u8]) -> Sale {
+    let amount = fields::number(out, line, 3, 4294967295);
     let known = amount.clear;
     if !known {
         return Sale {
@@ -188,7 +78,7 @@ fn sale_of(line: &[u8]) -> Sale {
             clock: 0,
         };
     }
-    let clock = fields::number(line, 4, 4294967295);
+    let clock = fields::number(out, line, 4, 4294967295);
     Sale {
         clear: clock.clear,
         amount: amount.value as u32,
@@ -196,19 +86,20 @@ fn sale_of(line: &[u8]) -> Sale {
     }
 }
 
-pub fn book(line: &[u8], journal: &mut [u8], at: Place) -> bool {
-    let label = fields::number(line, 2, 65535);
+pub fn book(out: &mut [u8], line: &[u8], journal: &mut [u8], at: Place) -> bool {
+    let label = fields::number(out, line, 2, 65535);
     let label_known = label.clear;
     if !label_known {
         return true;
     }
-    let sale = sale_of(line);
+    let sale = sale_of(out, line);
     let sale_known = sale.clear;
     if !sale_known {
         return true;
     }
     let pan = script::text_of(script::word(line, 1));
     book_in(
+        out,
         journal,
         pan,
         label.value as u16,
@@ -219,6 +110,7 @@ pub fn book(line: &[u8], journal: &mut [u8], at: Place) -> bool {
 }
 
 fn swipe_in(
+    out: &mut [u8],
     stream: &[u8],
     bits: u64,
     site: &[u8],
@@ -239,15 +131,16 @@ fn swipe_in(
         &mut scratch,
         journal,
     ) {
-        Swiped::Serial(serial) => booked(journal, serial, at),
+        Swiped::Serial(serial) => booked(out, journal, serial, at),
         Swiped::Refused(why) => {
-            say::refused(why);
+            say::refused(out, why);
             true
         }
     }
 }
 
-pub fn swipe(
+fn swipe_stream(
+    out: &mut [u8],
     line: &[u8],
     site: &[u8],
     acquirer: &[u8],
@@ -255,23 +148,24 @@ pub fn swipe(
     journal: &mut [u8],
     at: Place,
 ) -> bool {
-    let filled = fields::bytes(line, stream);
+    let filled = fields::bytes(out, line, stream);
     let stream_known = filled.clear;
     if !stream_known {
         return true;
     }
-    let bits = fields::number(line, 2, 18446744073709551615);
+    let bits = fields::number(out, line, 2, 18446744073709551615);
     let bits_known = bits.clear;
     if !bits_known {
         return true;
     }
-    let sale = sale_of(line);
+    let sale = sale_of(out, line);
     let sale_known = sale.clear;
     if !sale_known {
         return true;
     }
     let n = filled.length;
     swipe_in(
+        out,
         &stream[0..n],
         bits.value,
         site,
@@ -283,141 +177,57 @@ pub fn swipe(
     )
 }
 
+pub fn swipe(
+    out: &mut [u8],
+    line: &[u8],
+    site: &[u8],
+    acquirer: &[u8],
+    journal: &mut [u8],
+    at: Place,
+) -> bool {
+    let mut stream = [0u8; 70000];
+    swipe_stream(out, line, site, acquirer, &mut stream, journal, at)
+}
+
 // ---- release
 
-// The first of `count` serials that end with s.
-fn first_of(s: u32, count: u32) -> u32
-    requires { ⌜ 0 < count ⌝ }
-{
-    if count < s {
-        return s - count + 1;
+// The first of `count` serials that end with s; any where there are none.
+fn first_of(s: u32, count: u32) -> u32 {
+    if count == 0 {
+        return s;
     }
-    1
+    if s < count {
+        return 1;
+    }
+    s - (count - 1)
 }
 
 // Answers a release once it is on the disk.
-fn released(journal: &[u8], s: u32, count: u32, sum: u64, at: Place) -> bool {
-    let filed = at.filed;
-    if filed {
-        if 0 < count {
-            if !disk::write(at.fd, journal, first_of(s, count), count) {
-                return false;
-            }
-        }
+fn released(out: &mut [u8], journal: &[u8], s: u32, count: u32, sum: u64, at: Place) -> bool {
+    if !kept(out, journal, first_of(s, count), count, at) {
+        return false;
     }
-    say::words(b"released ");
-    say::number(count as u64);
-    say::words(b" ");
-    say::number(sum);
-    say::line();
+    say::value(out, b"released ", count as u64);
+    say::value(out, b" ", sum);
+    say::line(out);
     true
 }
 
-fn release_in(journal: &mut [u8], s: u32, at: Place) -> bool {
+fn release_in(out: &mut [u8], journal: &mut [u8], s: u32, at: Place) -> bool {
     match journal::release(journal, s) {
-        Released::Those(count, sum) => released(journal, s, count, sum, at),
+        Released::Those(count, sum) => released(out, journal, s, count, sum, at),
         Released::Refused(why) => {
-            say::refused(why);
+            say::refused(out, why);
             true
         }
     }
 }
 
-pub fn release(line: &[u8], journal: &mut [u8], at: Place) -> bool {
-    let serial = fields::number(line, 1, 4294967295);
+pub fn release(out: &mut [u8], line: &[u8], journal: &mut [u8], at: Place) -> bool {
+    let serial = fields::number(out, line, 1, 4294967295);
     let known = serial.clear;
     if !known {
         return true;
     }
-    release_in(journal, serial.value as u32, at)
-}
-
-// ---- show, tell, held
-
-fn show_in(journal: &[u8], serial: u32) {
-    match journal::find(journal, serial) {
-        Shown::At(at) => {
-            say::words(b"record ");
-            say::hex(text::piece(journal, at, 32));
-            say::line();
-        }
-        Shown::Refused(why) => say::refused(why),
-    }
-}
-
-pub fn show(line: &[u8], journal: &[u8]) {
-    let serial = fields::number(line, 1, 4294967295);
-    let known = serial.clear;
-    if !known {
-        return;
-    }
-    show_in(journal, serial.value as u32);
-}
-
-pub fn tell(journal: &[u8]) {
-    match journal::tell(journal) {
-        Told::Held(count, sum, oldest, newest) => {
-            say::words(b"held ");
-            say::number(count as u64);
-            say::words(b" ");
-            say::number(sum);
-            say::words(b" oldest ");
-            say::number(oldest as u64);
-            say::words(b" newest ");
-            say::number(newest as u64);
-            say::line();
-        }
-        Told::Refused(why) => say::refused(why),
-    }
-}
-
-// How many digits of a PAN of n digits its masked text hides.
-fn hidden(n: u8) -> usize {
-    if n < 10 {
-        return 0;
-    }
-    (n - 10) as usize
-}
-
-// Writes the line of a held record, serial, amount and masked PAN, and none for the empty part: how many lines that were.
-fn entry(record: &[u8]) -> u64
-    ensures { λ r. ⌜ r ≤ 1 ⌝ }
-{
-    if record.len() < 32 {
-        return 0;
-    }
-    say::number(text::u32_at(record, 0) as u64);
-    say::words(b" ");
-    say::number(text::u32_at(record, 8) as u64);
-    say::words(b" ");
-    say::words(&record[16..22]);
-    say::words(text::piece(b"*********", 0, hidden(record[14])));
-    say::words(&record[22..26]);
-    say::line();
-    1
-}
-
-// Lists the held records from the oldest on, by steps of a walk: how many there were. A walk that is done stays done.
-fn list(journal: &[u8], oldest: u32) -> u64 {
-    let mut count: u64 = 0;
-    let mut serial = oldest;
-    let mut steps = journal.len() / 32;
-    while 0 < steps {
-        count += entry(walker::held_at(journal, serial));
-        serial = walker::next_of(journal, serial);
-        steps -= 1;
-    }
-    count
-}
-
-pub fn held(journal: &[u8]) {
-    match journal::tell(journal) {
-        Told::Held(_, _, oldest, _) => {
-            let count = list(journal, oldest);
-            say::words(b"done ");
-            say::number(count);
-            say::line();
-        }
-        Told::Refused(why) => say::refused(why),
-    }
+    release_in(out, journal, serial.value as u32, at)
 }

@@ -8,18 +8,18 @@ ghost use mathlib.Core.Path.{_≡_};
 ghost use Prim.Native.Nat.{_≤_};
 ghost use lib.ListN.{length};
 
-pub fn unclear(why: &[u8]) {
-    words(b"not understood: ");
-    words(why);
-    line();
+pub fn unclear(out: &mut [u8], why: &[u8]) {
+    words(out, b"not understood: ");
+    words(out, why);
+    line(out);
 }
 
-fn unclear_word(why: Unclear) {
+fn unclear_word(out: &mut [u8], why: Unclear) {
     match why {
-        Unclear::NotNumber => unclear(b"not a number"),
-        Unclear::LargeNumber => unclear(b"number too large"),
-        Unclear::NotBytes => unclear(b"not bytes in hexadecimal"),
-        Unclear::ManyBytes => unclear(b"too many bytes"),
+        Unclear::NotNumber => unclear(out, b"not a number"),
+        Unclear::LargeNumber => unclear(out, b"number too large"),
+        Unclear::NotBytes => unclear(out, b"not bytes in hexadecimal"),
+        Unclear::ManyBytes => unclear(out, b"too many bytes"),
     }
 }
 
@@ -30,13 +30,13 @@ pub struct Field {
 }
 
 // Word k of a line as a number, no more than `most`.
-pub fn number(text: &[u8], k: usize, most: u64) -> Field
+pub fn number(out: &mut [u8], text: &[u8], k: usize, most: u64) -> Field
     ensures { λ r. ⌜ r .value ≤ most ⌝ }
 {
     match script::number_in(script::word(text, k), most) {
         Number::Is(value) => Field { clear: true, value },
         Number::Isnt(why) => {
-            unclear_word(why);
+            unclear_word(out, why);
             Field {
                 clear: false,
                 value: 0,
@@ -69,15 +69,22 @@ pub fn fills_none() -> Filled
     }
 }
 
-// Word 1 of a line as bytes, into the front of a buffer.
-pub fn bytes(text: &[u8], out: &mut [u8]) -> Filled
-    ensures { λ r. ⌜ r .length ≤ length (now (out .exit)) ⌝ }
+// A word as bytes, into the front of a buffer.
+pub fn bytes_of(out: &mut [u8], word: &[u8], room: &mut [u8]) -> Filled
+    ensures { λ r. ⌜ r .length ≤ length (now (room .exit)) ⌝ }
 {
-    match script::bytes_in(script::text_of(script::word(text, 1)), out) {
+    match script::bytes_in(script::text_of(word), room) {
         Bytes::Count(length) => fills(length),
         Bytes::Isnt(why) => {
-            unclear_word(why);
+            unclear_word(out, why);
             fills_none()
         }
     }
+}
+
+// Word 1 of a line as bytes.
+pub fn bytes(out: &mut [u8], text: &[u8], room: &mut [u8]) -> Filled
+    ensures { λ r. ⌜ r .length ≤ length (now (room .exit)) ⌝ }
+{
+    bytes_of(out, script::word(text, 1), room)
 }

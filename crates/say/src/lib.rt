@@ -1,70 +1,90 @@
-// Lines for people: words, texts, numbers, bytes, and what an answer says.
+// Lines for people: words, texts, numbers, bytes, and what an answer says. They wait in a lent buffer until they are written.
 pub mod fields;
+mod waiting;
 
-use libc::STDOUT_FILENO;
 use reasons::Phrase;
 use reasons::Reason;
 use reasons::Tested;
+pub use waiting::flush;
 ghost use Prim.Native.Nat.{_≤_};
 ghost use lib.ListN.{length};
 
-pub fn words(s: &[u8]) {
-    io::write_all(STDOUT_FILENO, s);
-}
-
-pub fn number(n: u64) {
-    io::print_decimal(STDOUT_FILENO, n);
-}
-
-pub fn line() {
-    words(b"\n");
-}
-
-// A text, `-` for the empty one.
-pub fn text(s: &[u8]) {
-    if s.len() == 0 {
-        words(b"-");
-    } else {
-        words(s);
-    }
-}
-
-fn pair(b: u8) {
-    let digits = script::hex_of(b);
-    words(&digits);
-}
-
-// Bytes in hexadecimal.
-pub fn hex(s: &[u8]) {
+pub fn words(out: &mut [u8], s: &[u8]) {
     let mut i = 0;
     while i < s.len() {
-        pair(s[i]);
+        waiting::put(out, s[i]);
         i += 1;
     }
 }
 
-fn phrase(p: Phrase)
+pub fn number(out: &mut [u8], n: u64) {
+    let mut digits = [0u8; 20];
+    let k = io::decimal(n, &mut digits);
+    words(out, &digits[..k]);
+}
+
+// A number with its name before it.
+pub fn value(out: &mut [u8], name: &[u8], n: u64) {
+    words(out, name);
+    number(out, n);
+}
+
+pub fn line(out: &mut [u8]) {
+    words(out, b"\n");
+}
+
+// A text, `-` for the empty one.
+pub fn text(out: &mut [u8], s: &[u8]) {
+    if s.len() == 0 {
+        words(out, b"-");
+    } else {
+        words(out, s);
+    }
+}
+
+// A text with its name before it.
+pub fn named(out: &mut [u8], name: &[u8], s: &[u8]) {
+    words(out, name);
+    text(out, s);
+}
+
+fn pair(out: &mut [u8], b: u8) {
+    let digits = script::hex_of(b);
+    words(out, &digits);
+}
+
+// Bytes in hexadecimal.
+pub fn hex(out: &mut [u8], s: &[u8]) {
+    let mut i = 0;
+    while i < s.len() {
+        pair(out, s[i]);
+        i += 1;
+    }
+}
+
+fn phrase(out: &mut [u8], p: Phrase)
     requires { ⌜ p .len ≤ length (p .bytes) ⌝ }
 {
     let bytes = p.bytes;
     let n = p.len;
-    words(&bytes[..n]);
+    words(out, &bytes[..n]);
 }
 
-// A refusal, by its number and the paper's words.
-pub fn refused(why: Reason) {
-    words(b"refused ");
-    number(reasons::number(why) as u64);
-    words(b": ");
-    phrase(reasons::words(why));
-    line();
+// A refusal without the end of its line: its number and the paper's words.
+pub fn refusal(out: &mut [u8], why: Reason) {
+    value(out, b"refused ", reasons::number(why) as u64);
+    words(out, b": ");
+    phrase(out, reasons::words(why));
 }
 
-pub fn tested(t: Tested) {
+pub fn refused(out: &mut [u8], why: Reason) {
+    refusal(out, why);
+    line(out);
+}
+
+pub fn tested(out: &mut [u8], t: Tested) {
     match t {
-        Tested::Passes => {
-            words(b"passes\n");
-        }
-        Tested::Refused(why) => refused(why),
+        Tested::Passes => words(out, b"passes\n"),
+        Tested::Refused(why) => refused(out, why),
     }
 }

@@ -1,4 +1,5 @@
 pub mod Words
+pub mod Typed
 pub mod Pairs
 pub mod Rules
 pub mod Laws

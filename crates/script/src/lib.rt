@@ -1,14 +1,14 @@
 // A line of a script taken apart: its words, numbers in decimal, bytes in hexadecimal.
 ghost use mathlib.Core.Path.{_≡_};
-ghost use mathlib.Core.Bool.{true};
+ghost use mathlib.Core.Bool.{true, cond};
 ghost use mathlib.Core.List.{[], _∷_};
 ghost use Prim.Native.Nat.{_+_, _*_, _/_, _%_, _≤_, _<_};
 ghost use lib.Dec.{leb, ltb};
-ghost use lib.ListN.{length, drop, getD};
+ghost use lib.ListN.{length, take, drop, getD, set};
 ghost use Rattle.text.specs.Bytes.{every};
 ghost use Rattle.text.specs.Numbers.{decimal, put};
 ghost use Rattle.reasons.specs.Reasons.{gives, demand};
-ghost use Rattle.script.specs.Words.{firstWord, afterWords, word, spaces, gap, plain, same};
+ghost use Rattle.script.specs.Words.{isSpace, firstWord, afterWords, word, spaces, gap, plain, isBlank, trimmed, isTag, untagged, solid, same};
 ghost use Rattle.script.specs.Numbers.{numberRule, saidNumber, isHex, hexValue, bytesIn, bytesRule, saidBytes, bytesRoom, glyph, hexText};
 
 // ---- words
@@ -106,6 +106,76 @@ pub fn text_of(w: &[u8]) -> &[u8]
         }
     }
     w
+}
+
+fn is_blank(b: u8) -> bool
+    ensures { λ r. ⌜ r ≡ isBlank b ⌝ }
+{
+    if b == 32 {
+        return true;
+    }
+    b == 13
+}
+
+// A line without the blanks at its end.
+pub fn trimmed(line: &[u8]) -> &[u8]
+    ensures { λ r. ⌜ now r ≡ trimmed (now (line .entry)) ⌝ }
+{
+    let mut n = line.len();
+    while 0 < n {
+        if !is_blank(line[n - 1]) {
+            return &line[..n];
+        }
+        n -= 1;
+    }
+    &line[..0]
+}
+
+fn is_tag(w: &[u8]) -> bool
+    ensures { λ r. ⌜ r ≡ isTag (now (w .entry)) ⌝ }
+{
+    if w.len() == 0 {
+        return false;
+    }
+    w[w.len() - 1] == 58
+}
+
+// A line without its tag.
+pub fn untagged(line: &[u8]) -> &[u8]
+    ensures { λ r. ⌜ now r ≡ untagged (now (line .entry)) ⌝ }
+{
+    if is_tag(word(line, 0)) {
+        return from_word(line, 1);
+    }
+    line
+}
+
+// Writes a byte that isn't a space at n: where the next one goes.
+fn put_solid(b: u8, room: &mut [u8], n: usize) -> usize
+    requires { ⌜ n < length (now room) ⌝ }
+    ensures { λ r. ⌜ (r ≡ cond (isSpace b) n (n + 1)) × (now (room .exit) ≡ cond (isSpace b) (now (room .entry)) (set (now (room .entry)) n b)) ⌝ }
+{
+    if b == 32 {
+        return n;
+    }
+    room[n] = b;
+    n + 1
+}
+
+// A text without its spaces, into the front of the room, as far as there is room: how many bytes that are.
+pub fn solid(s: &[u8], room: &mut [u8]) -> usize
+    ensures { λ r. ⌜ (r ≡ length (take (length (now (room .entry))) (solid (now (s .entry))))) × (now (room .exit) ≡ put (now (room .entry)) 0 (take (length (now (room .entry))) (solid (now (s .entry))))) ⌝ }
+{
+    let mut n = 0;
+    let mut i = 0;
+    while i < s.len() {
+        if room.len() <= n {
+            return n;
+        }
+        n = put_solid(s[i], room, n);
+        i += 1;
+    }
+    n
 }
 
 // Whether two texts are the same.

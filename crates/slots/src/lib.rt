@@ -37,7 +37,7 @@ pub fn freed(x: u8) -> u8
 }
 
 // Whether a record stands there.
-fn is_record(x: u8) -> bool
+pub fn is_record(x: u8) -> bool
     ensures { λ r. ⌜ r ≡ isRecord x ⌝ }
 {
     if is_held(x) {
@@ -47,7 +47,7 @@ fn is_record(x: u8) -> bool
 }
 
 // Whether a record of state x may have a PAN of n digits.
-fn length_fits(x: u8, n: u8) -> bool
+pub fn length_fits(x: u8, n: u8) -> bool
     ensures { λ r. ⌜ r ≡ lengthFits x n ⌝ }
 {
     if n < 13 {
@@ -60,7 +60,7 @@ fn length_fits(x: u8, n: u8) -> bool
 }
 
 // How many digits a record of state x keeps.
-fn kept(x: u8) -> usize
+pub fn kept(x: u8) -> usize
     ensures { λ r. ⌜ (r ≡ kept x) × (r ≤ 16) ⌝ }
 {
     10

@@ -36,8 +36,20 @@ run-of-requires c κs = search needs
 put-slots-requires : tie.Need-put-slots-requires Inv-loop μ-loop
 put-slots-requires c κs = search needs
 
+enum-told : tie.Need-enum-told Inv-loop μ-loop
+enum-told c = search needs
+
+enum-told-2 : tie.Need-enum-told-2 Inv-loop μ-loop
+enum-told-2 c = search needs
+
 returns-3 : tie.Need-returns-3 Inv-loop μ-loop
 returns-3 c = search needs
+
+enum-told-3 : tie.Need-enum-told-3 Inv-loop μ-loop
+enum-told-3 c = search needs
+
+returns-4 : tie.Need-returns-4 Inv-loop μ-loop
+returns-4 c = search needs
 
 add-round : tie.Need-add-round Inv-loop μ-loop
 add-round c = search needs
@@ -54,8 +66,8 @@ loop-less c = search needs
 loop-again : tie.Need-loop-again Inv-loop μ-loop
 loop-again c = search needs
 
-returns-4 : tie.Need-returns-4 Inv-loop μ-loop
-returns-4 c = search needs
+returns-5 : tie.Need-returns-5 Inv-loop μ-loop
+returns-5 c = search needs
 
 pub write-spec : {M : Type 1} → statement M
 write-spec =
@@ -71,10 +83,14 @@ write-spec =
     loop-holds
     run-of-requires
     put-slots-requires
+    enum-told
+    enum-told-2
     returns-3
+    enum-told-3
+    returns-4
     add-round
     round-requires
     sub-left
     loop-less
     loop-again
-    returns-4)
+    returns-5)

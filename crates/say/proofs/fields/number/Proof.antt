@@ -1,6 +1,6 @@
 -- `number`: what is understood is no more than the field holds. Assumes nothing.
-use borrow.Author.Needs.{needs}
 use Rattle.script.proofs.Laws.{number-fits}
+use borrow.Author.Needs.{needs}
 use Rattle.say.proofs.fields.number.Statement.{statement}
 use Rattle.say.proofs.fields.number.Tie as tie
 
@@ -22,6 +22,9 @@ unclear-word-requires c κs = search needs
 returns : tie.Need-returns
 returns c = number-fits _ _ _ _ (c .before .before .before .number-in .ensures) (c .before .value .given .1)
 
+same-length : tie.Need-same-length
+same-length c = search needs
+
 returns-2 : tie.Need-returns-2
 returns-2 c = search needs
 
@@ -35,4 +38,5 @@ number-spec =
     enum-known-why
     unclear-word-requires
     returns
+    same-length
     returns-2)

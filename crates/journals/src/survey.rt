@@ -1,0 +1,103 @@
+// What each slot of a journal says of itself.
+use journal::Surveyed;
+use reasons::Reason;
+ghost use Prim.Native.Nat.{_≤_};
+ghost use lib.ListN.{length};
+
+fn length_of(out: &mut [u8], n: usize) {
+    if 65536 < n {
+        say::words(out, b" (over 65536");
+    } else {
+        say::value(out, b" (", n as u64);
+    }
+}
+
+// Refuses a journal of a wrong length, and says how many bytes it has.
+pub fn wrong_length(out: &mut [u8], n: usize) {
+    say::refusal(out, Reason::BadJournal);
+    length_of(out, n);
+    say::words(
+        out,
+        b" bytes; a journal has 32 to 65536, a multiple of 32)\n",
+    );
+}
+
+// How many slots say x of themselves.
+fn how_many(states: &[u8], x: u8) -> usize {
+    let mut n = 0;
+    let mut i = 0;
+    while i < states.len() {
+        if states[i] == x {
+            n += 1;
+        }
+        i += 1;
+    }
+    n
+}
+
+// The line of slot k, where it is damaged.
+fn damaged_slot(out: &mut [u8], journal: &[u8], k: usize, state: u8)
+    requires { ⌜ k ≤ 2048 ⌝ }
+{
+    if state != 3 {
+        return;
+    }
+    say::value(out, b"damaged ", k as u64);
+    say::words(out, b" ");
+    say::hex(out, text::piece(journal, 32 * k, 32));
+    say::line(out);
+}
+
+fn damaged(out: &mut [u8], journal: &[u8], states: &[u8])
+    requires { ⌜ length (now states) ≤ 2048 ⌝ }
+{
+    let mut k = 0;
+    while k < states.len() {
+        damaged_slot(out, journal, k, states[k]);
+        k += 1;
+    }
+}
+
+fn report(out: &mut [u8], journal: &[u8], states: &[u8], form: &[u8])
+    requires { ⌜ length (now states) ≤ 2048 ⌝ }
+{
+    damaged(out, journal, states);
+    say::value(out, b"free ", how_many(states, 0) as u64);
+    say::value(out, b" held ", how_many(states, 1) as u64);
+    say::value(out, b" released ", how_many(states, 2) as u64);
+    say::value(out, b" damaged ", how_many(states, 3) as u64);
+    say::words(out, form);
+}
+
+// As many states as there are slots.
+fn surveyed<'a>(journal: &[u8], states: &'a [u8]) -> &'a [u8]
+    requires { ⌜ length (now states) ≤ 2048 ⌝ }
+    ensures { λ r. ⌜ length (now r) ≤ 2048 ⌝ }
+{
+    let n = journal.len() / 32;
+    if n < states.len() {
+        return &states[0..n];
+    }
+    states
+}
+
+// 2,048 states are enough for any journal, so that nothing but its length is refused.
+fn survey_in(out: &mut [u8], journal: &[u8], states: &mut [u8])
+    requires { ⌜ length (now states) ≤ 2048 ⌝ }
+{
+    match journal::survey(journal, states) {
+        Surveyed::Formed => report(out, journal, surveyed(journal, states), b" well formed\n"),
+        Surveyed::Malformed => report(
+            out,
+            journal,
+            surveyed(journal, states),
+            b" not well formed\n",
+        ),
+        Surveyed::Refused(_) => wrong_length(out, journal.len()),
+    }
+}
+
+pub fn survey(out: &mut [u8], journal: &[u8]) {
+    let mut states = [0u8; 2048];
+    survey_in(out, journal, &mut states);
+}

@@ -1,0 +1,6 @@
+pub mod Bytes
+pub mod Rule
+pub mod Polls
+pub mod Slots
+pub mod Forms
+pub mod Laws

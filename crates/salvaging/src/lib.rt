@@ -1,0 +1,138 @@
+// The command `salvage`: a line for each slot that isn't free, one for each reason why the journal isn't well formed, and what the records come to.
+mod record;
+
+use journals::survey;
+use salvage::Agreed;
+use salvage::Counted;
+use salvage::Counts;
+use salvage::Judged;
+use salvage::Looked;
+use salvage::Verdict;
+ghost use Prim.Native.Nat.{_*_, _≤_};
+ghost use lib.ListN.{length};
+
+// ---- slots
+
+fn slot(out: &mut [u8], journal: &[u8], k: usize)
+    requires { ⌜ 32 * k ≤ length (now journal) ⌝ }
+{
+    match salvage::look(journal, k) {
+        Looked::Says(slot) => record::told(
+            out,
+            text::piece(journal, 32 * k, 32),
+            journal.len() / 32,
+            k,
+            slot,
+        ),
+        Looked::Refused(why) => say::refused(out, why),
+    }
+}
+
+fn slots(out: &mut [u8], journal: &[u8]) {
+    let n = journal.len() / 32;
+    let mut k = 0;
+    while k < n {
+        slot(out, journal, k);
+        k += 1;
+    }
+}
+
+// ---- reasons
+
+fn missing(out: &mut [u8], k: usize, serial: u32) {
+    say::value(out, b"serial ", serial as u64);
+    say::value(out, b" is missing: slot ", k as u64);
+    say::words(out, b" is free\n");
+}
+
+fn damaged(out: &mut [u8], k: usize, due: u32) {
+    say::value(out, b"slot ", k as u64);
+    if due == 0 {
+        say::words(out, b" is damaged\n");
+    } else {
+        say::value(out, b" is damaged: serial ", due as u64);
+        say::words(out, b" belongs there\n");
+    }
+}
+
+fn disagrees(out: &mut [u8], k: usize, serial: u32, newest: u32) {
+    say::value(out, b"slot ", k as u64);
+    say::value(out, b" holds serial ", serial as u64);
+    say::value(out, b": most agree that the newest is ", newest as u64);
+    say::line(out);
+}
+
+fn above(out: &mut [u8], serial: u32, held: u32) {
+    say::value(out, b"serial ", serial as u64);
+    say::value(out, b" is released above serial ", held as u64);
+    say::words(out, b", which is held\n");
+}
+
+// Writes why slot k keeps the journal from being well formed, and answers whether it doesn't.
+fn reason(out: &mut [u8], k: usize, newest: u32, verdict: Verdict) -> bool {
+    match verdict {
+        Verdict::Fine => return true,
+        Verdict::Missing(serial) => missing(out, k, serial),
+        Verdict::Damaged(due) => damaged(out, k, due),
+        Verdict::Disagrees(serial) => disagrees(out, k, serial, newest),
+        Verdict::Above(serial, held) => above(out, serial, held),
+    }
+    false
+}
+
+fn judged(out: &mut [u8], journal: &[u8], k: usize, newest: u32, oldest: u32) -> bool {
+    match salvage::judge(journal, k, newest, oldest) {
+        Judged::Is(verdict) => reason(out, k, newest, verdict),
+        Judged::Refused(why) => {
+            say::refused(out, why);
+            false
+        }
+    }
+}
+
+// Writes every reason, and answers whether there is none: the journal is well formed.
+fn reasons_told(out: &mut [u8], journal: &[u8], newest: u32, oldest: u32) -> bool {
+    let n = journal.len() / 32;
+    let mut well = true;
+    let mut k = 0;
+    while k < n {
+        well = judged(out, journal, k, newest, oldest) & well;
+        k += 1;
+    }
+    well
+}
+
+// ---- the whole
+
+fn counts(out: &mut [u8], c: Counts) {
+    say::value(out, b"held ", c.held as u64);
+    say::value(out, b" sum ", c.sum);
+    say::value(out, b" released ", c.released as u64);
+    say::value(out, b" damaged ", c.damaged as u64);
+}
+
+fn counted(out: &mut [u8], journal: &[u8]) {
+    match salvage::count(journal) {
+        Counted::Of(c) => counts(out, c),
+        Counted::Refused(why) => say::refusal(out, why),
+    }
+}
+
+fn whole(out: &mut [u8], journal: &[u8], newest: u32, oldest: u32) {
+    slots(out, journal);
+    let well = reasons_told(out, journal, newest, oldest);
+    counted(out, journal);
+    if well {
+        say::words(out, b" well formed\n");
+    } else {
+        say::words(out, b" not well formed\n");
+    }
+}
+
+// Tells all that the bytes of a journal still say.
+pub fn salvage(out: &mut [u8], journal: &[u8]) {
+    match salvage::agree(journal) {
+        Agreed::On(newest, oldest) => whole(out, journal, newest, oldest),
+        Agreed::Refused(_) => survey::wrong_length(out, journal.len()),
+    }
+}

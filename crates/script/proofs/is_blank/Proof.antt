@@ -1,0 +1,14 @@
+-- `is_blank`: a space, or a carriage return. Assumes nothing.
+use Rattle.script.proofs.Typed.{blank-space, blank-other}
+use borrow.Author.Needs.{needs}
+use Rattle.script.proofs.is_blank.Statement.{statement}
+use Rattle.script.proofs.is_blank.Tie as tie
+
+returns : tie.Need-returns
+returns c = blank-space _ (c .if1 .taken)
+
+returns-2 : tie.Need-returns-2
+returns-2 c = blank-other _ (c .if1 .left)
+
+pub is-blank-spec : {M : Type 1} → statement M
+is-blank-spec = tie.close (tie.spec returns returns-2)
