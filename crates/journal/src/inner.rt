@@ -84,7 +84,7 @@ pub fn book_at(j: &mut [u8], b: u32, pan: &[u8], label: u16, amount: u32, clock:
 
 // ---- the held records
 
-// With the record at `at` before those of t, where it is held.
+// What t's records come to with the one at `at` put before them, if that is held.
 fn with_record(t: Tallied, j: &[u8], at: usize) -> Tallied
     requires { ⌜ (at + 32 ≤ length (now j)) × (t .count < 4096) × (t .sum ≤ 4294967295 * t .count) ⌝ }
     ensures { λ r. ⌜ (r .count ≤ t .count + 1) × (r .sum ≤ 4294967295 * r .count) × ((rs : List (List ℕ)) → Tallies t rs → Tallies r (cond (isHeld (stateAt (now (j .entry)) at)) (take 32 (drop at (now (j .entry))) ∷ rs) rs)) ⌝ }

@@ -192,7 +192,8 @@ places-small s d accepted =
 stops-six : {A : Type 0} (t : Bool) (o : Outcome A) (m : ℕ) → (o ≡ refuses m → m ≡ 6) → demand t 6 o ≡ refuses m → m ≡ 6
 stops-six t o m h e = ⊎-elim (λ x. x .1) (λ x. h (x .1)) (stopped t 6 o m e)
 
-then-six : {A B : Type 0} (o : Outcome A) (f : A → Outcome B) (m : ℕ) → (o ≡ refuses m → m ≡ 6) → ((v : A) → f v ≡ refuses m → m ≡ 6) → andThen o f ≡ refuses m → m ≡ 6
+then-six : {A B : Type 0} (o : Outcome A) (f : A → Outcome B) (m : ℕ) → (o ≡ refuses m → m ≡ 6) → ((v : A) → f v ≡ refuses m → m ≡ 6)
+    → andThen o f ≡ refuses m → m ≡ 6
 then-six o f m h k e = ⊎-elim h (λ x. k (x .0) (x .2)) (went-wrong o f m e)
 
 field-six : (test : List ℕ → Bool) (n : ℕ) (s : List ℕ) (q m : ℕ) → fieldRule test n s q ≡ refuses m → m ≡ 6

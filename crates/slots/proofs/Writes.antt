@@ -20,7 +20,7 @@ unfolding wrote
 wrote-length j [] = refl
 wrote-length j (w ∷ ws) = wrote-length (set j (w .place) (w .byte)) ws ∙ simp length-set
 
--- a byte of the record is written at the turn that is its own place's byte, and so each byte once
+-- the 32 turns go over the 32 bytes, each once: byte i is written at turn `turnByte i`
 turn-below : (k : ℕ) → turnByte k < 32
 unfolding turnByte
 turn-below k = omega arith
@@ -55,7 +55,8 @@ module _ (r : List ℕ) (at : ℕ) where
       ap (λ (ws : List Write). turnWrite k ∷ ws) (next-write (k + 1) m ∙ ap (λ (x : ℕ). writesFrom r at (k + 1) m ++ (turnWrite x ∷ [])) e)
 
   -- one turn of the loop, and its end
-  pub write-turn : (j₀ j : List ℕ) (k i : ℕ) → i ≡ turnByte k → k < 32 → j ≡ wrote j₀ (take k (recordWrites r at)) → set j (at + i) (getD r i 0) ≡ wrote j₀ (take (k + 1) (recordWrites r at))
+  pub write-turn : (j₀ j : List ℕ) (k i : ℕ) → i ≡ turnByte k → k < 32 → j ≡ wrote j₀ (take k (recordWrites r at))
+      → set j (at + i) (getD r i 0) ≡ wrote j₀ (take (k + 1) (recordWrites r at))
   unfolding wrote
   write-turn j₀ j k i b h e =
       let q : k + 1 ≡ suc k = omega arith in

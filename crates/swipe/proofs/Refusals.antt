@@ -40,7 +40,9 @@ module _ (site acquirer : List ℕ) (n : ℕ) where
 
   -- of the characters: "layout 6", then their PAN
   abbrev pub CharsRefuse : List ℕ → Type 0
-  CharsRefuse chars = Either (layoutRule chars) n (λ (d : Places). First (passes (take (d .pan) chars)) 4 n ((n ≡ 15) × NoRange site acquirer (take (d .pan) chars)))
+  CharsRefuse chars =
+      Either (layoutRule chars) n (λ (d : Places).
+      First (passes (take (d .pan) chars)) 4 n ((n ≡ 15) × NoRange site acquirer (take (d .pan) chars)))
 
   pub chars-refuse : (chars : List ℕ) → (charsRule site acquirer chars ≡ refuses n) ↔ CharsRefuse chars
   unfolding charsRule

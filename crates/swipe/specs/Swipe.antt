@@ -91,8 +91,8 @@ pub record Charges (m : Newest) (g : Given) (amount clock room : ℕ) (j : List 
   pub answer : saidSwiped r ≡ swipeAnswer m g amount room j
   pub journal : k ≡ swipeBytes m g amount room clock j
 
--- what a swipe allows as answer r, as scratch u and as journal k, lent the scratch t and the journal j: a view of the journal, looked at
--- where the scratch is long enough, and what follows from it
+-- what a swipe allows: the answer r, the scratch u and the journal k, where it was lent the scratch t and the journal j. The journal is looked at
+-- only where the scratch is long enough, so that only then `view` is the journal's
 pub record Swipes (g : Given) (amount clock : ℕ) (t j : List ℕ) (r : Swiped) (u k : List ℕ) : Type 0 where
   pub view : Newest
   pub is : 37 ≤ length t → NewestIs j view

@@ -77,7 +77,7 @@ fn card_of_stripe(
     }
 }
 
-// All but the scratch's own test and its clearing.
+// A swipe between the scratch's test, which comes before, and its clearing, which comes after.
 fn book_card(
     stream: &[u8],
     bits: u64,

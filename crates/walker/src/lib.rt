@@ -16,7 +16,7 @@ pub struct Walker<'a> {
 
 // ---- the covered functions, on the journal and a serial
 
-// Where the record of serial s begins, where it stands held in its slot.
+// Where the record of serial s begins, if it stands held in its slot.
 pub fn find_held(j: &[u8], s: u32) -> Shown
     ensures { λ r. ⌜ saidShown r ≡ heldRule (now (j .entry)) s ⌝ }
 {

@@ -84,7 +84,8 @@ Holds (creditor-passes t) = creditorRule (bytesOf t) ≡ gives tt
 Holds (iban-passes t) = ibanRule (bytesOf t) ≡ gives tt
 Holds (track t lrc bits count bit-count) = TrackHolds (bytesOf t) (inner (bytesOf t)) lrc bits count bit-count
 Holds (masks pan text) =
-    (out : List ℕ) (r : Tested) (k : List ℕ) → length (bytesOf pan) ≤ length out → Masks (bytesOf pan) out r k → (said r ≡ gives tt) × (k ≡ put out 0 (bytesOf text))
+    (out : List ℕ) (r : Tested) (k : List ℕ) → length (bytesOf pan) ≤ length out → Masks (bytesOf pan) out r k
+    → (said r ≡ gives tt) × (k ≡ put out 0 (bytesOf text))
 Holds (books pan label amount clock bytes) =
     (r : Booked) (k : List ℕ) → Books (replicate 32 0) (bytesOf pan) label amount clock r k → (saidBooked r ≡ gives 1) × (k ≡ bytes)
 

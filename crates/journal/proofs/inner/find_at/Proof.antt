@@ -1,5 +1,6 @@
 use Prim.Native.Nat.{ℕ, _+_}
 use mathlib.Core.Path.{_≡_, sym, ap, _∙_}
+use mathlib.Core.Bool.{true}
 use borrow.Author.Tests.{not-true, not-false}
 use Rattle.text.specs.Bytes.{within}
 use Rattle.journal.specs.Held.{lowOf}
@@ -24,6 +25,11 @@ kept c =
     let a = c .before .before .before .args in
     c .is-after .ensures ∙ ap (λ (x : ℕ). within (x + 1) (a .b) (a .s)) (c .before .floor-of .ensures)
 
+is-kept : (c : tie.Else1) →
+    let a = c .before .before .before .before .args in
+    within (lowOf (a .j .now) (a .b) + 1) (a .b) (a .s) ≡ true
+is-kept c = sym (kept (c .before)) ∙ not-false _ (c .if1 .left)
+
 returns : tie.Need-returns
 returns c = show-none _ _ _ (sym (kept (c .before)) ∙ not-true _ (c .if1 .taken))
 
@@ -45,7 +51,7 @@ returns-2 c =
     let tested = at-place .before in
     let j = tested .before .before .before .before .args .j .now in
     let e = at-place .place-of .ensures .0 in
-    ap gives e ∙ show-done j _ _ (sym (kept (tested .before)) ∙ not-false _ (tested .if1 .left)) (sym (held-at j _ _ _ _ e (c .before .is-held .ensures)) ∙ c .if2 .taken)
+    ap gives e ∙ show-done j _ _ (is-kept tested) (sym (held-at j _ _ _ _ e (c .before .is-held .ensures)) ∙ c .if2 .taken)
 
 returns-3 : tie.Need-returns-3
 returns-3 c =
@@ -53,7 +59,7 @@ returns-3 c =
     let tested = at-place .before in
     let j = tested .before .before .before .before .args .j .now in
     let e = at-place .place-of .ensures .0 in
-    show-free j _ _ (sym (kept (tested .before)) ∙ not-false _ (tested .if1 .left)) (sym (held-at j _ _ _ _ e (c .before .is-held .ensures)) ∙ c .if2 .left)
+    show-free j _ _ (is-kept tested) (sym (held-at j _ _ _ _ e (c .before .is-held .ensures)) ∙ c .if2 .left)
 
 pub find-at-spec : {M : Type 1} → statement M
 find-at-spec =

@@ -41,7 +41,8 @@ returns-2 c =
     let at-tally = at-free .before .before in
     let at-higher = at-tally .before .before in
     let w = booked (at-higher .before .before) in
-    release-freed _ _ _ _ _ _ _ (w .0) (w .1) (at-higher .before .floor-of .ensures) (at-higher .higher .ensures .2) (at-tally .tally .ensures) (at-free .free .ensures)
+    let floor = at-higher .before .floor-of .ensures in
+    release-freed _ _ _ _ _ _ _ (w .0) (w .1) floor (at-higher .higher .ensures .2) (at-tally .tally .ensures) (at-free .free .ensures)
 
 pub release-at-spec : {M : Type 1} → statement M
 release-at-spec =

@@ -39,7 +39,8 @@ place-of-requires c κs = search needs
 returns-3 : tie.Need-returns-3
 returns-3 c = let at-serial = c .before .before .before in
     let start = at-serial .before .before .before .before in
-    no-place _ _ _ (at-serial .u32-at .ensures) (at-serial .before .before .zeros .ensures .1 (at-serial .before .if1 .left)) _ _ (start .pre .0) (c .before .place-of .ensures .0) (λ e. omega (arith, e, c .if3 .taken))
+    let some = at-serial .before .before .zeros .ensures .1 (at-serial .before .if1 .left) in
+    no-place _ _ _ (at-serial .u32-at .ensures) some _ _ (start .pre .0) (c .before .place-of .ensures .0) (λ e. omega (arith, e, c .if3 .taken))
 
 good-requires : tie.Need-good-requires
 good-requires c κs = search needs
