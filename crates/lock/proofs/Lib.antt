@@ -1,0 +1,2 @@
+pub mod Stats
+pub mod Laws
