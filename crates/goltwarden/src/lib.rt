@@ -6,3 +6,5 @@ mod digits;
 mod journals;
 mod stripe;
 mod swipes;
+
+pub use digits::gw_version;
