@@ -164,8 +164,11 @@ pub struct State {
     pub filed: bool,
     pub fd: i32,
     pub lost: bool,
-    // whether a line is shown before its answer
+    // whether the file is only read
+    pub read_only: bool,
+    // whether a line is shown before its answer, and whether one is asked for at a terminal
     pub shown: bool,
+    pub prompt: bool,
 }
 
 // No tables, and an empty journal of 2,048 slots in memory.
@@ -179,7 +182,9 @@ pub fn in_memory(shown: bool) -> State
         filed: false,
         fd: -1,
         lost: false,
+        read_only: false,
         shown,
+        prompt: false,
     }
 }
 
