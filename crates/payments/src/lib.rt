@@ -1,4 +1,5 @@
 // The commands on the journal, in memory or in a file: slots, journal, survey, book, swipe, release, show, tell, held.
+use disk::Stored;
 use journal::Booked;
 use journal::Released;
 use journal::Shown;
@@ -147,13 +148,32 @@ pub fn survey(journal: &[u8]) {
 // ---- book and swipe: these, and a release, answer whether the journal can be used any more. One that could not be written can't, so
 // that nothing is told that the file may not hold.
 
+// A disk error is said in a line; the system's word for it goes to standard error.
+fn failed(what: &[u8]) -> bool {
+    os::fail(b"card");
+    say::words(b"disk error: the journal could not be ");
+    say::words(what);
+    say::line();
+    false
+}
+
+// Whether the records of `count` serials from `first` on are on the disk, where the journal is a file.
+fn stored(journal: &[u8], first: u32, count: u32, at: Place) -> bool {
+    let filed = at.filed;
+    if !filed {
+        return true;
+    }
+    match disk::write(at.fd, journal, first, count) {
+        Stored::Synced => true,
+        Stored::NotWritten => failed(b"written"),
+        Stored::NotSynced => failed(b"synced"),
+    }
+}
+
 // Answers a booking once it is on the disk.
 fn booked(journal: &[u8], serial: u32, at: Place) -> bool {
-    let filed = at.filed;
-    if filed {
-        if !disk::write(at.fd, journal, serial, 1) {
-            return false;
-        }
+    if !stored(journal, serial, 1, at) {
+        return false;
     }
     say::words(b"booked ");
     say::number(serial as u64);
@@ -297,12 +317,9 @@ fn first_of(s: u32, count: u32) -> u32
 
 // Answers a release once it is on the disk.
 fn released(journal: &[u8], s: u32, count: u32, sum: u64, at: Place) -> bool {
-    let filed = at.filed;
-    if filed {
-        if 0 < count {
-            if !disk::write(at.fd, journal, first_of(s, count), count) {
-                return false;
-            }
+    if 0 < count {
+        if !stored(journal, first_of(s, count), count, at) {
+            return false;
         }
     }
     say::words(b"released ");

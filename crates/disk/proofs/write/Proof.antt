@@ -36,6 +36,9 @@ run-of-requires c κs = search needs
 put-slots-requires : tie.Need-put-slots-requires Inv-loop μ-loop
 put-slots-requires c κs = search needs
 
+enum-told : tie.Need-enum-told Inv-loop μ-loop
+enum-told c = search needs
+
 returns-3 : tie.Need-returns-3 Inv-loop μ-loop
 returns-3 c = search needs
 
@@ -71,6 +74,7 @@ write-spec =
     loop-holds
     run-of-requires
     put-slots-requires
+    enum-told
     returns-3
     add-round
     round-requires
