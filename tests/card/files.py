@@ -13,7 +13,8 @@ def kept(folder):
     same(sorted(p.name for p in folder.iterdir()), ["journal"], "files in the folder")
     same(lines(f"book {CARD} 7 250 0\nbook {OTHER} 8 100 5\n", path), ["booked 1", "booked 2"])
     same(records(path), {1: (1, 250), 2: (1, 100)})
-    begin(lines(f"book {CARD} 7 0 0\nbook {CARD} 9 50 0\nshow 3\n", path), ["refused 17: amount 0", "booked 3", "record 03000000000000003200000009001001" + b"4111111111".hex() + "00" * 6])
+    record = "record 03000000000000003200000009001001" + b"4111111111".hex() + "00" * 6
+    begin(lines(f"book {CARD} 7 0 0\nbook {CARD} 9 50 0\nshow 3\n", path), ["refused 17: amount 0", "booked 3", record])
     begin(lines("release 2\nrelease 2\nheld\n", path), ["released 2 350", "released 0 0", "3 50 411111******1111", "done 1"])
     same(records(path), {1: (2, 250), 2: (2, 100), 3: (1, 50)})
     begin(lines("tell\nsurvey\n", path), ["held 1 50 oldest 3 newest 3", "free 2045 held 1 released 2 damaged 0 well formed"])
@@ -71,14 +72,16 @@ def last_serial(folder):
     path = folder / "journal"
     record = (4294967295).to_bytes(4, "little") + bytes(4) + (1).to_bytes(4, "little") + bytes(2) + bytes([16, 1]) + b"4111111111" + bytes(6)
     path.write_bytes(record)
+    used_up = "refused 19: serials used up"
     begin(lines(f"book {CARD} 7 1 0\nswipe - 0 1 0\nheld\nrelease 4294967295\ntell\nbook {CARD} 7 1 0\n", path),
-         ["refused 19: serials used up", "refused 19: serials used up", "4294967295 1 411111******1111", "done 1", "released 1 1", "held 0 0 oldest 0 newest 4294967295", "refused 19: serials used up"])
+          [used_up, used_up, "4294967295 1 411111******1111", "done 1", "released 1 1", "held 0 0 oldest 0 newest 4294967295", used_up])
 
 
 def no_file(folder):
     """A path that can't be opened: that is said with its cause, nothing is made, and no command is answered."""
     hint = "card: a journal is made by card --new SLOTS JOURNAL"
-    for path, cause in ((folder / "mistyped", ["No such file or directory", hint]), (folder, ["Is a directory"]), (folder / "none/journal", ["No such file or directory", hint])):
+    missing = ["No such file or directory", hint]
+    for path, cause in ((folder / "mistyped", missing), (folder / "none/journal", missing), (folder, ["Is a directory"])):
         out, err = both(f"book {CARD} 7 1 0\ntell\nluhn 18\n", path)
         same(out, b"disk error: the journal could not be opened\n", str(path))
         same(err.decode().splitlines(), [f"card: {path}: {cause[0]}"] + cause[1:], "cause")
@@ -94,16 +97,16 @@ def options(folder):
     usage = "; usage: card [JOURNAL], card --new SLOTS JOURNAL, card --read-only JOURNAL, card --help, card --version"
     slots, missing, many = "SLOTS is a number from 1 to 2048", "the journal's name is missing", "too many words"
     cases = {
-        ("--nwe", "J"): "option not understood: --nwe", ("-x",): "option not understood: -x", ("-",): "option not understood: -", ("--new", "4", "-x"): "option not understood: -x",
-        ("--new",): slots, ("--new", "J"): slots, ("--new", "0", "J"): slots, ("--new", "2049", "J"): slots, ("--new", "-1", "J"): slots, ("--new", "", "J"): slots,
-        ("--new", "4"): missing, ("--read-only",): missing, ("--",): missing, ("--new", "4", "--"): missing,
-        ("J", "K"): many, ("--new", "4", "J", "K"): many, ("--read-only", "J", "K"): many, ("--help", "J"): many, ("--version", "J"): many, ("--", "J", "K"): many,
-    }
+        slots: ("--new", "--new J", "--new 0 J", "--new 2049 J", "--new -1 J", "--new 4x J"),
+        missing: ("--new 4", "--read-only", "--", "--new 4 --"),
+        many: ("J K", "--new 4 J K", "--read-only J K", "--help J", "--version J", "-- J K"),
+    } | {f"option not understood: {word}": (f"{word} J", word, f"--new 4 {word}", f"--read-only {word} J") for word in ("--nwe", "-x", "-")}
     here = os.getcwd()
     os.chdir(folder)
     try:
-        for words, why in cases.items():
-            same(both("tell\n", *words), (b"", f"card: {why}{usage}\n".encode()), str(words))
+        for why, asked in cases.items():
+            for words in asked:
+                same(both("tell\n", *words.split()), (b"", f"card: {why}{usage}\n".encode()), words)
         same(sorted(folder.iterdir()), [], "files in the folder")
         same(lines("", "--version"), ["goltwarden 1"])
         same(lines("luhn 18\n", "--help")[0].startswith("card "), True, "help")
@@ -216,39 +219,38 @@ def lock_left(folder):
         sleeps.wait()
 
 
+def pair(*args):
+    """Two processes started at once, each asked to book: the processes, and their first answers."""
+    both_of = [subprocess.Popen(program + [str(a) for a in args], stdin=subprocess.PIPE, stdout=subprocess.PIPE, stderr=subprocess.DEVNULL) for _ in range(2)]
+    for amount, one in enumerate(both_of, 1):
+        try:
+            one.stdin.write(f"book {CARD} 7 {amount} 0\n".encode())
+            one.stdin.flush()
+        except BrokenPipeError:
+            pass
+    # whoever has the journal keeps it until both have answered
+    found = [one.stdout.readline().decode().strip() for one in both_of]
+    for one in both_of:
+        one.communicate(timeout=600)
+    return found
+
+
 def two_starts(folder):
-    """Two processes started at once, a hundred times: never do both answer a booking, and every one that was answered is in the file."""
-    path, newest, both_refused = made(folder / "journal", 300), 0, 0
-    for turn in range(100):
-        pair = [subprocess.Popen(program + [str(path)], stdin=subprocess.PIPE, stdout=subprocess.PIPE, stderr=subprocess.DEVNULL) for _ in range(2)]
-        for p in pair:
-            p.stdin.write(f"book {CARD} 7 {turn + 1} 0\n".encode())
-            p.stdin.flush()
-        # each holds the journal until both have answered
-        found = [p.stdout.readline().decode().strip() for p in pair]
-        for p in pair:
-            p.communicate(timeout=600)
-        booked = [f for f in found if f.startswith("booked ")]
-        same(len(booked) <= 1 and sorted(found)[-1] == "disk error: the journal is in use", True, f"answers at turn {turn}: {found}")
-        both_refused += not booked
-        for answer in booked:
-            newest += 1
-            same(answer, f"booked {newest}")
-            same(records(path, 300)[newest], (1, turn + 1), f"serial {newest}")
-    same(len(records(path, 300)), newest, "records")
-    assert both_refused < 50, f"both were refused {both_refused} times of 100"
+    """Two processes started at once, a hundred times: one answers a booking, which is in the file, and the other is refused."""
+    path = made(folder / "journal", 100)
+    for serial in range(1, 101):
+        found = pair(path)
+        same(sorted(found), [f"booked {serial}", "disk error: the journal is in use"], f"answers at start {serial}")
+        same(records(path, 100)[serial], (1, 1 + found.index(f"booked {serial}")), f"serial {serial}")
 
 
 def two_makers(folder):
     """Two processes that make the same journal at once, a hundred times: one makes it, and what it booked is in the file."""
     for turn in range(100):
         path = folder / f"journal{turn}"
-        pair = [subprocess.Popen(program + ["--new", "4", str(path)], stdin=subprocess.PIPE, stdout=subprocess.PIPE, stderr=subprocess.DEVNULL) for _ in range(2)]
-        found = [p.communicate(f"book {CARD} 7 {turn + 1} {i}\n".encode(), timeout=600)[0].decode().splitlines() for i, p in enumerate(pair)]
-        booked = [f for f in found if f == ["booked 1"]]
-        refused = [f for f in found if f in (["disk error: the journal is in use"], ["disk error: the journal could not be made"])]
-        same(len(booked) <= 1 and len(booked) + len(refused) == 2, True, f"answers at turn {turn}: {found}")
-        same(records(path, 4), {1: (1, turn + 1)} if booked else {}, f"records at turn {turn}") if path.exists() or booked else None
+        found = pair("--new", 4, path)
+        same(sorted(found), ["booked 1", "disk error: the journal is in use"], f"answers at turn {turn}")
+        same(records(path, 4), {1: (1, 1 + found.index("booked 1"))}, f"records at turn {turn}")
 
 
 # ---- a file that is only read
@@ -313,10 +315,15 @@ def at_terminal(folder):
     same(lines(f"book {CARD} 7 250 0\n", path), ["booked 1"])
     damaged.write_bytes(bytes(31) + b"x")
     short.write_bytes(bytes(33))
-    cases = [((path,), f"{path}: 4 slots, 1 held\n"), (("--read-only", path), f"{path}: 4 slots, 1 held\n"), (("--new", 7, folder / "new"), f"{folder}/new: 7 slots, 0 held\n"),
-             ((damaged,), f"{damaged}: 1 slots, not well formed\n"), ((), "a journal in memory: 2048 slots, 0 held\n"),
-             ((short,), f"card: {short}: 33 bytes; a journal has 32 for each of its 1 to 2048 slots\n")]
-    for args, wanted in cases:
+    cases = {
+        (path,): f"{path}: 4 slots, 1 held\n",
+        ("--read-only", path): f"{path}: 4 slots, 1 held\n",
+        ("--new", 7, folder / "new"): f"{folder}/new: 7 slots, 0 held\n",
+        (damaged,): f"{damaged}: 1 slots, not well formed\n",
+        (short,): f"card: {short}: 33 bytes; a journal has 32 for each of its 1 to 2048 slots\n",
+        (): "a journal in memory: 2048 slots, 0 held\n",
+    }
+    for args, wanted in cases.items():
         shown = typed(wanted.encode().replace(b"\n", b"\r\n"), *args)
         same(shown.startswith(wanted), True, f"what is shown: {shown!r}, wanted {wanted!r}")
 

@@ -13,13 +13,13 @@ use Rattle.lock.specs.Stat.{afterLast, afterName, ended, startTime}
 
 module _ (s : List ℕ) (i at : ℕ) where
   -- a `)` makes what follows it the best so far, any other byte leaves it
-  pub last-here : (next : ℕ) → i < length s → getD s i 0 ≡ 41 → next ≡ i + 1 → afterLast (drop (i + 1) s) (drop next s) ≡ afterLast (drop i s) (drop at s)
+  pub last-here : (n : ℕ) → i < length s → getD s i 0 ≡ 41 → n ≡ i + 1 → afterLast (drop (i + 1) s) (drop n s) ≡ afterLast (drop i s) (drop at s)
   unfolding afterLast
-  last-here next h e f = rw (f, drop-cons s i 0 h, eq-eqb (getD s i 0) 41 e, add-one i)
+  last-here n h e f = rw (f, drop-cons s i 0 h, eq-eqb (getD s i 0) 41 e, add-one i)
 
-  pub last-other : (next : ℕ) → i < length s → (getD s i 0 ≡ 41 → ⊥) → next ≡ at → afterLast (drop (i + 1) s) (drop next s) ≡ afterLast (drop i s) (drop at s)
+  pub last-other : (n : ℕ) → i < length s → (getD s i 0 ≡ 41 → ⊥) → n ≡ at → afterLast (drop (i + 1) s) (drop n s) ≡ afterLast (drop i s) (drop at s)
   unfolding afterLast
-  last-other next h e f = rw (f, drop-cons s i 0 h, ne-eqb (getD s i 0) 41 e, add-one i)
+  last-other n h e f = rw (f, drop-cons s i 0 h, ne-eqb (getD s i 0) 41 e, add-one i)
 
   pub last-end : length s ≤ i → drop at s ≡ afterLast (drop i s) (drop at s)
   unfolding afterLast
