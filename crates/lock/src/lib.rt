@@ -12,6 +12,7 @@ ghost use mathlib.Core.Path.{_≡_};
 ghost use Prim.Native.Nat.{_≤_};
 ghost use lib.ListN.{length};
 ghost use Rattle.lock.specs.Stat.{afterName, startTime};
+ghost use Rattle.lock.specs.Line.{blankLine, fits, signed, isNow};
 
 // ---- who a process is: its number, when it started, and the boot that it started in
 
@@ -100,7 +101,7 @@ fn ask(pid: &[u8], stat: &mut [u8]) -> Told {
 
 // A line's bytes before anything is written into it: spaces, and the line feed that ends it.
 fn blank() -> [u8; 128]
-    ensures { λ r. ⌜ 128 ≡ length r ⌝ }
+    ensures { λ r. ⌜ (r ≡ blankLine) × (128 ≡ length r) ⌝ }
 {
     let mut line = [32u8; 128];
     line[127] = 10;
@@ -110,6 +111,8 @@ fn blank() -> [u8; 128]
 // Writes a process's line into a blank one; false where what should stand in it isn't known, or doesn't fit.
 fn sign(pid: &[u8], start: &[u8], boot: &[u8], line: &mut [u8]) -> bool
     requires { ⌜ 128 ≤ length (now line) ⌝ }
+    ensures { λ r. ⌜ r ≡ fits (now (pid .entry)) (now (start .entry)) (now (boot .entry)) ⌝ }
+    ensures { λ _. ⌜ now (line .exit) ≡ signed (now (line .entry)) (now (pid .entry)) (now (start .entry)) (now (boot .entry)) ⌝ }
 {
     if start.len() == 0 {
         return false;
@@ -147,6 +150,17 @@ fn sign_self(own: &mut [u8]) -> bool
     }
 }
 
+// Whether a line is that of the process of this number and start time, in this boot, which the own line names.
+fn is_now(line: &[u8], own: &[u8], pid: &[u8], start: &[u8]) -> bool
+    ensures { λ r. ⌜ r ≡ isNow (now (line .entry)) (now (own .entry)) (now (pid .entry)) (now (start .entry)) ⌝ }
+{
+    let mut fresh = blank();
+    if !sign(pid, start, text::piece(own, 42, 36), &mut fresh) {
+        return false;
+    }
+    script::is_same(line, &fresh)
+}
+
 // Whether the process that wrote a line lives, or that isn't known.
 enum Life {
     Lives(u64),
@@ -154,26 +168,26 @@ enum Life {
     Unknown,
 }
 
-// A process lives whose line would be the same now, in this boot, which is that of the own line.
-fn compare(line: &[u8], own: &[u8], pid: &[u8], start: &[u8]) -> Life {
-    let mut fresh = blank();
-    if !sign(pid, start, text::piece(own, 42, 36), &mut fresh) {
-        return Life::Ended;
-    }
-    if !script::is_same(line, &fresh) {
-        return Life::Ended;
-    }
+fn lives(pid: &[u8]) -> Life {
     match script::number_in(pid, 4294967295) {
         Number::Is(n) => Life::Lives(n),
         Number::Isnt(_) => Life::Ended,
     }
 }
 
+fn compare(line: &[u8], own: &[u8], pid: &[u8], stat: &[u8]) -> Life {
+    if is_now(line, own, pid, start_time(stat)) {
+        return lives(pid);
+    }
+    Life::Ended
+}
+
+// A process lives whose line would be the same now.
 fn life_of(line: &[u8], own: &[u8]) -> Life {
     let pid = script::word(line, 0);
     let mut stat = io::buffer();
     match ask(pid, &mut stat) {
-        Told::Bytes(n) => compare(line, own, pid, start_time(text::piece(&stat, 0, n))),
+        Told::Bytes(n) => compare(line, own, pid, text::piece(&stat, 0, n)),
         Told::Nobody => Life::Ended,
         Told::Nothing => Life::Unknown,
     }
