@@ -56,8 +56,8 @@ def untouched(folder):
         before = path.stat()
         out, err = both(script, path)
         begin(out.decode().splitlines(), [wrong] * 6, name)
-        length = "over 65536" if len(data) > SLOT * SLOTS else str(len(data))
-        told = f"card: {path}: {length} bytes; a journal has 32 for each of its 1 to 2048 slots\n"
+        length = "over 65536 bytes" if len(data) > SLOT * SLOTS else "1 byte" if len(data) == 1 else f"{len(data)} bytes"
+        told = f"card: {path}: {length}; a journal has 32 for each of its 1 to 2048 slots\n"
         same(err.decode(), "" if len(data) == SLOT * SLOTS else told, f"what is said of {name}")
         same(path.read_bytes(), data, f"bytes of {name}")
         same(path.stat().st_mtime_ns, before.st_mtime_ns, f"time of {name}")
@@ -319,7 +319,7 @@ def at_terminal(folder):
         (path,): f"{path}: 4 slots, 1 held\n",
         ("--read-only", path): f"{path}: 4 slots, 1 held\n",
         ("--new", 7, folder / "new"): f"{folder}/new: 7 slots, 0 held\n",
-        (damaged,): f"{damaged}: 1 slots, not well formed\n",
+        (damaged,): f"{damaged}: 1 slot, not well formed\n",
         (short,): f"card: {short}: 33 bytes; a journal has 32 for each of its 1 to 2048 slots\n",
         (): "a journal in memory: 2048 slots, 0 held\n",
     }

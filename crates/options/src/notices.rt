@@ -12,6 +12,16 @@ fn remark(words: &[u8]) {
     io::write_all(STDERR_FILENO, words);
 }
 
+// So many of something.
+fn count(fd: i32, n: usize, thing: &[u8]) {
+    io::print_decimal(fd, n as u64);
+    io::write_all(fd, b" ");
+    io::write_all(fd, thing);
+    if n != 1 {
+        io::write_all(fd, b"s");
+    }
+}
+
 // ---- what it is asked
 
 fn unknown(i: usize) {
@@ -101,8 +111,8 @@ pub fn at_terminal() -> bool {
 fn greeting(name: &[u8], length: usize) {
     answer(name);
     answer(b": ");
-    io::print_decimal(STDOUT_FILENO, (length / 32) as u64);
-    answer(b" slots, ");
+    count(STDOUT_FILENO, length / 32, b"slot");
+    answer(b", ");
 }
 
 pub fn formed(name: &[u8], length: usize, held: u32) {
@@ -117,13 +127,13 @@ pub fn formed(name: &[u8], length: usize, held: u32) {
 fn wrong_length(name: &[u8], length: usize) {
     remark(b"card: ");
     remark(name);
+    remark(b": ");
     if 65536 < length {
-        remark(b": over 65536");
+        remark(b"over 65536 bytes");
     } else {
-        remark(b": ");
-        io::print_decimal(STDERR_FILENO, length as u64);
+        count(STDERR_FILENO, length, b"byte");
     }
-    remark(b" bytes; a journal has 32 for each of its 1 to 2048 slots\n");
+    remark(b"; a journal has 32 for each of its 1 to 2048 slots\n");
 }
 
 fn is_length(n: usize) -> bool {
