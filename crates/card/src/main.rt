@@ -73,7 +73,7 @@ fn run_opened(name: &[u8], journal: &mut [u8], opened: Opened, read_only: bool)
 
 // ---- which file
 
-// The journal at a path, which this process alone uses; made first where it has so many bytes, and else there already.
+// The journal at a path, which this process alone uses: made first, with so many bytes, or there already where they are 0.
 fn run_alone(name: &[u8], path: &[u8], bytes: usize)
     requires { ⌜ bytes ≤ 65536 ⌝ }
 {
@@ -87,6 +87,7 @@ fn run_alone(name: &[u8], path: &[u8], bytes: usize)
     }
 }
 
+// Takes the lock first and leaves it last: nothing of the journal is read before, and nothing written after.
 fn run_locked(name: &[u8], path: &[u8], bytes: usize)
     requires { ⌜ bytes ≤ 65536 ⌝ }
 {
@@ -111,13 +112,14 @@ fn existing(name: &[u8]) {
     run_locked(name, &path[0..n], 0);
 }
 
+// A file that isn't changed needs no lock.
 fn read_only(name: &[u8]) {
     let mut journal = [0u8; 65537];
     let opened = disk::open_to_read(name, &mut journal);
     run_opened(name, &mut journal, opened, true);
 }
 
-// A new file beside which its lock stands, by the name that it is to have.
+// A new file. Its lock stands beside the name that it is to have, since nothing may be there yet.
 fn new(name: &[u8], slots: usize)
     requires { ⌜ slots ≤ 2048 ⌝ }
 {
