@@ -1,35 +1,54 @@
-// The journal's file: made where there is none, read once, changed in place.
-use libc::ENOENT;
-use libc::STDOUT_FILENO;
+// The journal's file: opened or made, read once, changed in place. Nothing is said here: each answer names what could not be done, and the
+// system's word for it is the last error's.
 ghost use Prim.Native.Nat.{_+_, _*_, _%_, _≤_, _<_};
 ghost use lib.ListN.{length};
 
-// A disk error is said in a line; the system's word for it goes to standard error.
-fn failed(what: &[u8]) {
-    os::fail(b"card");
-    io::write_all(STDOUT_FILENO, b"disk error: the journal could not be ");
-    io::write_all(STDOUT_FILENO, what);
-    io::write_all(STDOUT_FILENO, b"\n");
+// ---- descriptors
+
+// Opens what is missing of descriptors 0 to 2, so that no file of ours becomes the standard output or error: whether that could be done.
+// What is opened so can be read, and is empty, and can't be written.
+pub fn fill_standard() -> bool {
+    let mut turns: u32 = 4;
+    while 0 < turns {
+        turns -= 1;
+        let fd = os::open_read(b"/dev/null");
+        if fd < 0 {
+            return false;
+        }
+        if 2 < fd {
+            libc::close(fd);
+            return true;
+        }
+    }
+    false
 }
 
-// How many bytes of the file were read, by a descriptor; lost where it can't be used.
+// ---- an existing file
+
+// Whether a file can be used, or what could not be done with it.
+pub enum Use {
+    Ready,
+    NotOpened,
+    NotRead,
+    NotMade,
+}
+
+// A file's descriptor, and how many bytes of it were read.
 pub struct Opened {
     pub length: usize,
-    pub lost: bool,
     pub fd: i32,
+    pub usable: Use,
 }
 
-fn unusable() -> Opened
+fn unusable(why: Use) -> Opened
     ensures { λ r. ⌜ r .length ≤ 0 ⌝ }
 {
     Opened {
         length: 0,
-        lost: true,
         fd: -1,
+        usable: why,
     }
 }
-
-// ---- an existing file
 
 // Reads the file once. A byte more than the longest journal makes a longer file one of a wrong length.
 fn load(fd: i32, journal: &mut [u8]) -> Opened
@@ -39,15 +58,78 @@ fn load(fd: i32, journal: &mut [u8]) -> Opened
     let mut more = [0u8; 1];
     if n < journal.len() {
         if libc::read(fd, &mut more) != 0 {
-            failed(b"read");
-            return unusable();
+            return unusable(Use::NotRead);
         }
     }
     Opened {
         length: n,
-        lost: false,
         fd,
+        usable: Use::Ready,
     }
+}
+
+fn read_in(fd: i32, journal: &mut [u8]) -> Opened
+    ensures { λ r. ⌜ r .length ≤ length (now (journal .exit)) ⌝ }
+{
+    if fd < 0 {
+        return unusable(Use::NotOpened);
+    }
+    load(fd, journal)
+}
+
+// Opens the journal at a path for changes.
+pub fn open(path: &[u8], journal: &mut [u8]) -> Opened
+    ensures { λ r. ⌜ r .length ≤ length (now (journal .exit)) ⌝ }
+{
+    read_in(os::open_update(path), journal)
+}
+
+// Opens the journal at a path for reading alone.
+pub fn open_to_read(path: &[u8], journal: &mut [u8]) -> Opened
+    ensures { λ r. ⌜ r .length ≤ length (now (journal .exit)) ⌝ }
+{
+    read_in(os::open_read(path), journal)
+}
+
+fn number_of(fd: i32) -> u64 {
+    if fd < 0 { 0 } else { fd as u64 }
+}
+
+// The path of the link that stands for an open file, whose number these digits write; a buffer of zeros ends it.
+fn link_path(digits: &[u8], path: &mut [u8])
+    requires { ⌜ 4096 ≤ length (now path) ⌝ }
+{
+    text::put_at(path, 0, b"/proc/self/fd/");
+    if digits.len() <= 20 {
+        text::put_at(path, 14, digits);
+    }
+}
+
+// The text of the link that stands for an open file, its path through no link: how many bytes it has, 0 where it can't be told.
+fn link_of(fd: i32, real: &mut [u8]) -> usize
+    ensures { λ r. ⌜ r ≤ length (now (real .exit)) ⌝ }
+{
+    let mut digits = [0u8; 20];
+    let n = io::decimal(number_of(fd), &mut digits);
+    let mut path = io::buffer();
+    link_path(&digits[..n], &mut path);
+    path[4095] = 0;
+    let got = libc::readlink(&path, real);
+    io::count(got, real)
+}
+
+// The path through no link of the file that a path leads to, into the front of a buffer: how many bytes it has, 0 where it can't be opened
+// for changes. Nothing of the file is read.
+pub fn resolve(path: &[u8], real: &mut [u8]) -> usize
+    ensures { λ r. ⌜ r ≤ length (now (real .exit)) ⌝ }
+{
+    let fd = os::open_update(path);
+    if fd < 0 {
+        return 0;
+    }
+    let n = link_of(fd, real);
+    libc::close(fd);
+    n
 }
 
 // ---- a new file
@@ -85,93 +167,39 @@ fn name_kept(path: &[u8]) -> bool {
     sync_folder(&path[0..n])
 }
 
-// Zeros into a new file, synced, then renamed into place, so that no half-made file stands.
-fn settle(fd: i32, name: &[u8], path: &[u8], zeros: &[u8]) -> bool {
+// Zeros into a new file, which belongs to its maker alone, seen on the disk with its name.
+fn settle(fd: i32, path: &[u8], zeros: &[u8]) -> bool {
+    if libc::fchmod(fd, 0o600) != 0 {
+        return false;
+    }
     if !io::write_all(fd, zeros) {
         return false;
     }
     if libc::fsync(fd) != 0 {
         return false;
     }
-    if os::rename(name, path) != 0 {
-        return false;
-    }
     name_kept(path)
 }
 
-// Makes the file under a name of its own beside the path.
-fn make(name: &mut [u8], path: &[u8], zeros: &[u8]) -> Opened
+// Makes the journal at a path, of these zeros. What is there already, a link too, is never replaced; what could not be made whole is
+// removed.
+pub fn make(path: &[u8], zeros: &[u8]) -> Opened
     ensures { λ r. ⌜ r .length ≤ length (now (zeros .entry)) ⌝ }
 {
-    let fd = os::create_temp(name);
+    let fd = os::create(path);
     if fd < 0 {
-        failed(b"made");
-        return unusable();
+        return unusable(Use::NotMade);
     }
-    if settle(fd, name, path, zeros) {
+    if settle(fd, path, zeros) {
         return Opened {
             length: zeros.len(),
-            lost: false,
             fd,
+            usable: Use::Ready,
         };
     }
-    failed(b"made");
-    os::unlink(name);
+    os::unlink(path);
     libc::close(fd);
-    unusable()
-}
-
-// The path with an end that `create_temp` makes a new one of; 0 where it doesn't fit.
-fn temp_name(path: &[u8], name: &mut [u8]) -> usize
-    ensures { λ r. ⌜ r ≤ length (now (name .exit)) ⌝ }
-{
-    let n = path.len();
-    if 4000 < n {
-        return 0;
-    }
-    let end = n + 7;
-    if name.len() < end {
-        return 0;
-    }
-    text::put_at(name, 0, path);
-    text::put_at(name, n, b".XXXXXX");
-    end
-}
-
-fn make_beside(name: &mut [u8], path: &[u8], zeros: &[u8]) -> Opened
-    ensures { λ r. ⌜ r .length ≤ length (now (zeros .entry)) ⌝ }
-{
-    let n = temp_name(path, name);
-    make(&mut name[0..n], path, zeros)
-}
-
-// 2,048 empty slots.
-fn create(path: &[u8]) -> Opened
-    ensures { λ r. ⌜ r .length ≤ 65536 ⌝ }
-{
-    let zeros = io::large_buffer();
-    let mut name = io::buffer();
-    make_beside(&mut name, path, &zeros)
-}
-
-// Opens the journal at a path, or makes it where there is none; the bytes lent are then zeros and stay so.
-pub fn open(path: &[u8], journal: &mut [u8]) -> Opened
-    requires { ⌜ 65536 ≤ length (now journal) ⌝ }
-    ensures { λ r. ⌜ r .length ≤ length (now (journal .exit)) ⌝ }
-{
-    if path.len() == 0 {
-        failed(b"opened");
-        return unusable();
-    }
-    let fd = os::open_update(path);
-    if 0 <= fd {
-        return load(fd, journal);
-    }
-    if os::errno() != ENOENT {
-        failed(b"opened");
-        return unusable();
-    }
-    create(path)
+    unusable(Use::NotMade)
 }
 
 // ---- changes
@@ -199,7 +227,7 @@ fn run_of(k: usize, left: usize, n: usize) -> usize
     least(least(16 - k % 16, n - k), left)
 }
 
-// Whether what was to be written is on the disk; where it isn't, the system's word for it went to standard error.
+// Whether a change is on the disk, or what could not be done.
 pub enum Stored {
     Synced,
     NotWritten,
@@ -212,14 +240,20 @@ fn put(fd: i32, at: usize, bytes: &[u8]) -> Stored
 {
     let got = libc::pwrite(fd, bytes, at as i64);
     if io::count(got, bytes) != bytes.len() {
-        os::fail(b"card");
         return Stored::NotWritten;
     }
     if libc::fsync(fd) != 0 {
-        os::fail(b"card");
         return Stored::NotSynced;
     }
     Stored::Synced
+}
+
+// Writes back what was read of a well formed journal, and sees it on the disk. What is read may not be on the disk: a process may have
+// been killed between a write and its sync, and after a sync that failed the system may hold for clean what it couldn't write. At most
+// one sector of the disk differs then from what was read, since each write is synced before the next, and no process writes after a
+// failure. So a cut at this moment leaves that sector as it was or as it was read, and either way a well formed journal.
+pub fn write_back(fd: i32, journal: &[u8]) -> Stored {
+    put(fd, 0, journal)
 }
 
 fn put_slots(fd: i32, journal: &[u8], k: usize, n: usize) -> Stored
@@ -245,10 +279,10 @@ pub fn write(fd: i32, journal: &[u8], first: u32, count: u32) -> Stored {
     let mut left = count as usize;
     while 0 < left {
         let r = run_of(k, left, n);
-        match put_slots(fd, journal, k, r) {
+        let stored = put_slots(fd, journal, k, r);
+        match stored {
             Stored::Synced => {}
-            Stored::NotWritten => return Stored::NotWritten,
-            Stored::NotSynced => return Stored::NotSynced,
+            _ => return stored,
         }
         k = round(k + r, n);
         left -= r;

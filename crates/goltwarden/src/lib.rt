@@ -7,3 +7,5 @@ mod journals;
 mod stripe;
 mod swipes;
 mod walks;
+
+pub use digits::gw_version;

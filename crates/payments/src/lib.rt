@@ -12,6 +12,15 @@ pub struct Place {
     pub fd: i32,
 }
 
+// A disk error is said in a line; the system's word for it goes to standard error.
+fn failed(out: &mut [u8], what: &[u8]) -> bool {
+    os::fail(b"card");
+    say::words(out, b"disk error: the journal could not be ");
+    say::words(out, what);
+    say::line(out);
+    false
+}
+
 // Sees the records of `count` serials from `first` on in the file, where there is one: whether they are there.
 fn kept(out: &mut [u8], journal: &[u8], first: u32, count: u32, at: Place) -> bool {
     let filed = at.filed;
@@ -20,14 +29,8 @@ fn kept(out: &mut [u8], journal: &[u8], first: u32, count: u32, at: Place) -> bo
     }
     match disk::write(at.fd, journal, first, count) {
         Stored::Synced => true,
-        Stored::NotWritten => {
-            say::words(out, b"disk error: the journal could not be written\n");
-            false
-        }
-        Stored::NotSynced => {
-            say::words(out, b"disk error: the journal could not be synced\n");
-            false
-        }
+        Stored::NotWritten => failed(out, b"written"),
+        Stored::NotSynced => failed(out, b"synced"),
     }
 }
 

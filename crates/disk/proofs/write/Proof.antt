@@ -39,17 +39,8 @@ put-slots-requires c κs = search needs
 enum-told : tie.Need-enum-told Inv-loop μ-loop
 enum-told c = search needs
 
-enum-told-2 : tie.Need-enum-told-2 Inv-loop μ-loop
-enum-told-2 c = search needs
-
 returns-3 : tie.Need-returns-3 Inv-loop μ-loop
 returns-3 c = search needs
-
-enum-told-3 : tie.Need-enum-told-3 Inv-loop μ-loop
-enum-told-3 c = search needs
-
-returns-4 : tie.Need-returns-4 Inv-loop μ-loop
-returns-4 c = search needs
 
 add-round : tie.Need-add-round Inv-loop μ-loop
 add-round c = search needs
@@ -66,8 +57,8 @@ loop-less c = search needs
 loop-again : tie.Need-loop-again Inv-loop μ-loop
 loop-again c = search needs
 
-returns-5 : tie.Need-returns-5 Inv-loop μ-loop
-returns-5 c = search needs
+returns-4 : tie.Need-returns-4 Inv-loop μ-loop
+returns-4 c = search needs
 
 pub write-spec : {M : Type 1} → statement M
 write-spec =
@@ -84,13 +75,10 @@ write-spec =
     run-of-requires
     put-slots-requires
     enum-told
-    enum-told-2
     returns-3
-    enum-told-3
-    returns-4
     add-round
     round-requires
     sub-left
     loop-less
     loop-again
-    returns-5)
+    returns-4)

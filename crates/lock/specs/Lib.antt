@@ -1,0 +1,2 @@
+pub mod Stat
+pub mod Line
