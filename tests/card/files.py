@@ -139,11 +139,15 @@ def no_descriptors(folder):
     path = made(folder / "journal", 4)
     script = folder / "script"
     script.write_text(f"book {CARD} 7 250 0\n" * 6 + "x\n" * 2000)
+    taken = records(path)
     for closed in ("<&-", ">&-", "2>&-", ">&- 2>&-", "<&- >&-", "<&- >&- 2>&-"):
         for given in (path, folder / "none", folder):
             opened = closed if "<" in closed else f'< "{script}" {closed}'
             subprocess.run(["sh", "-c", f'exec "$@" {opened}', "sh", *program, str(given)], stdout=subprocess.PIPE, stderr=subprocess.PIPE, timeout=600)
         same(len(path.read_bytes()), 4 * SLOT, f"length after {closed}")
+        if ">&-" in closed.replace("2>&-", ""):
+            same(records(path), taken, f"payments taken that nobody hears of, after {closed}")
+        taken = records(path)
         same(lines("survey\n", path)[-1].endswith(" damaged 0 well formed"), True, f"well formed after {closed}")
     same(sorted(p.name for p in folder.iterdir()), ["journal", "script"], "files in the folder")
 

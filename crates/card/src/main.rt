@@ -153,9 +153,11 @@ fn named(i: usize, slots: usize, only_read: bool)
     }
 }
 
-// Nothing is opened before the standard descriptors are there: an answer must never be written into a journal.
+// Nothing is opened before the standard descriptors are there: an answer must never be written into a journal, and no payment is taken
+// that nobody hears of.
 fn main() {
     if !disk::fill_standard() {
+        notices::unheard();
         return;
     }
     match options::read() {

@@ -5,9 +5,10 @@ ghost use lib.ListN.{length};
 
 // ---- descriptors
 
-// Opens what is missing of descriptors 0 to 2, so that no file of ours becomes the standard output or error: whether that could be done.
-// What is opened so can be read, and is empty, and can't be written.
+// Opens what is missing of descriptors 0 to 2, so that no file of ours becomes the standard output or error: whether that could be done,
+// and standard output was there, without which no answer is heard. What is opened so is empty, and can't be written.
 pub fn fill_standard() -> bool {
+    let mut heard = true;
     let mut turns: u32 = 4;
     while 0 < turns {
         turns -= 1;
@@ -17,7 +18,10 @@ pub fn fill_standard() -> bool {
         }
         if 2 < fd {
             libc::close(fd);
-            return true;
+            return heard;
+        }
+        if fd == 1 {
+            heard = false;
         }
     }
     false

@@ -60,6 +60,11 @@ pub fn version() {
     answer(b"\n");
 }
 
+// Without a standard output nothing is opened.
+pub fn unheard() {
+    remark(b"card: no line is taken: standard output is closed, or /dev/null can't be opened\n");
+}
+
 // ---- its file
 
 // A name that can't be a file's: an empty one, or one too long.

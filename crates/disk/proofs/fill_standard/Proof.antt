@@ -5,10 +5,10 @@ use Rattle.disk.proofs.fill_standard.Statement.{statement}
 use Rattle.disk.proofs.fill_standard.Tie as tie
 
 abbrev Inv-loop : tie.InvT-loop
-Inv-loop turns₀ t3 turns = turns ≤ 4
+Inv-loop heard₀ turns₀ t4 heard turns = turns ≤ 4
 
 abbrev μ-loop : tie.MeasureT-loop
-μ-loop turns₀ t3 turns = turns
+μ-loop heard₀ turns₀ t4 heard turns = turns
 
 loop-holds : tie.Need-loop-holds Inv-loop μ-loop
 loop-holds c = search needs
@@ -37,6 +37,12 @@ loop-less c = search needs
 loop-again : tie.Need-loop-again Inv-loop μ-loop
 loop-again c = search needs
 
+loop-less-2 : tie.Need-loop-less-2 Inv-loop μ-loop
+loop-less-2 c = search needs
+
+loop-again-2 : tie.Need-loop-again-2 Inv-loop μ-loop
+loop-again-2 c = search needs
+
 returns-3 : tie.Need-returns-3 Inv-loop μ-loop
 returns-3 c = search needs
 
@@ -55,4 +61,6 @@ fill-standard-spec =
     returns-2
     loop-less
     loop-again
+    loop-less-2
+    loop-again-2
     returns-3)

@@ -21,7 +21,7 @@ sign-requires c κs = search needs
 returns : tie.Need-returns
 returns c =
     let signs = c .before .before in
-    now-none _ _ _ _ _ (signs .before .before .piece .ensures) (sym (signs .sign .ensures .0) ∙ not-true _ (c .if1 .taken))
+    now-none _ _ _ _ _ (signs .before .before .piece .ensures .bytes) (sym (signs .sign .ensures .0) ∙ not-true _ (c .if1 .taken))
 
 slice-aggregate-is-same : tie.Need-slice-aggregate-is-same
 slice-aggregate-is-same c = search needs
@@ -34,7 +34,7 @@ returns-2 c =
     let signs = c .before .before .before .before in
     let blanks = signs .before .before .before in
     c .is-same .ensures
-    ∙ now-same _ _ _ _ _ (signs .before .before .piece .ensures) _ _ (blanks .blank .ensures .0) (sym (signs .sign .ensures .0) ∙ not-false _ (c .before .before .if1 .left)) (signs .sign .ensures .1)
+    ∙ now-same _ _ _ _ _ (signs .before .before .piece .ensures .bytes) _ _ (blanks .blank .ensures .0) (sym (signs .sign .ensures .0) ∙ not-false _ (c .before .before .if1 .left)) (signs .sign .ensures .1)
 
 pub is-now-spec : {M : Type 1} → statement M
 is-now-spec =
