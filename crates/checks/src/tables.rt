@@ -1,8 +1,6 @@
 // The range tables of the site and the acquirer, and the look-up.
 use ranges::Found;
 use say::fields;
-ghost use Prim.Native.Nat.{_≤_};
-ghost use lib.ListN.{length};
 
 // A table's records; bytes over are told too, since a look-up refuses such a table.
 fn records(out: &mut [u8], name: &[u8], length: usize) {
@@ -17,10 +15,7 @@ fn records(out: &mut [u8], name: &[u8], length: usize) {
 
 // Takes a table from a line. The answer is how many bytes of the buffer are in use from now on: those in use before where the
 // line isn't understood.
-pub fn take_in(out: &mut [u8], name: &[u8], line: &[u8], table: &mut [u8], used: usize) -> usize
-    requires { ⌜ used ≤ length (now table) ⌝ }
-    ensures { λ r. ⌜ r ≤ length (now (table .exit)) ⌝ }
-{
+pub fn take_in(out: &mut [u8], name: &[u8], line: &[u8], table: &mut [u8], used: usize) -> usize {
     let filled = fields::bytes(out, line, table);
     let clear = filled.clear;
     if !clear {

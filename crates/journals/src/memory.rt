@@ -19,10 +19,7 @@ fn so_many(out: &mut [u8], n: u64) {
 }
 
 // A new, empty journal: how many bytes it has.
-pub fn slots(out: &mut [u8], line: &[u8], journal: &mut [u8]) -> Filled
-    requires { ⌜ 65536 ≤ length (now journal) ⌝ }
-    ensures { λ r. ⌜ r .length ≤ length (now (journal .exit)) ⌝ }
-{
+pub fn slots(out: &mut [u8], line: &[u8], journal: &mut [u8]) -> Filled {
     let field = fields::number(out, line, 1, 4294967295);
     let n = field.value;
     let clear = field.clear;
@@ -43,9 +40,7 @@ pub fn slots(out: &mut [u8], line: &[u8], journal: &mut [u8]) -> Filled
 }
 
 // A journal with the bytes of a line: how many they are. It is surveyed at once.
-pub fn load(out: &mut [u8], line: &[u8], journal: &mut [u8]) -> Filled
-    ensures { λ r. ⌜ r .length ≤ length (now (journal .exit)) ⌝ }
-{
+pub fn load(out: &mut [u8], line: &[u8], journal: &mut [u8]) -> Filled {
     let filled = fields::bytes(out, line, journal);
     let clear = filled.clear;
     let n = filled.length;

@@ -1,20 +1,19 @@
--- `take_lines`: what is in use of each buffer stays within it, from line to line. Assumes nothing.
+-- `take_lines`: the turns left fall, and what is still to be taken stays within the input. Assumes nothing.
 use Prim.Native.Nat.{_≤_}
 use borrow.Author.Needs.{needs}
 use lib.ListN.{length}
 use mathlib.Core.Path.{_≡_}
-use Rattle.commands.specs.Kept.{Sound}
 use Rattle.commands.proofs.take_lines.Statement.{statement}
 use Rattle.commands.proofs.take_lines.Tie as tie
 
 abbrev Inv-loop : tie.InvT-loop
-Inv-loop input₀ line₀ site₀ acquirer₀ stream₀ journal₀ st₀ source₀ turns₀ input line site acquirer stream journal st source turns =
-    Sound site acquirer journal st × (source .at ≤ source .end) × (source .end ≤ length input)
-    × (length input ≡ length input₀) × (length line ≡ length line₀) × (length site ≡ length site₀)
-    × (length acquirer ≡ length acquirer₀) × (length stream ≡ length stream₀) × (length journal ≡ length journal₀)
+Inv-loop out₀ input₀ line₀ site₀ acquirer₀ journal₀ st₀ source₀ turns₀ out input line site acquirer journal st source turns =
+    (source .at ≤ source .end) × (source .end ≤ length input)
+    × (length out ≡ length out₀) × (length input ≡ length input₀) × (length line ≡ length line₀)
+    × (length site ≡ length site₀) × (length acquirer ≡ length acquirer₀) × (length journal ≡ length journal₀)
 
 abbrev μ-loop : tie.MeasureT-loop
-μ-loop input₀ line₀ site₀ acquirer₀ stream₀ journal₀ st₀ source₀ turns₀ input line site acquirer stream journal st source turns = turns
+μ-loop out₀ input₀ line₀ site₀ acquirer₀ journal₀ st₀ source₀ turns₀ out input line site acquirer journal st source turns = turns
 
 fresh-requires : tie.Need-fresh-requires Inv-loop μ-loop
 fresh-requires c κs = search needs
@@ -25,17 +24,8 @@ loop-holds c = search needs
 sub-turns : tie.Need-sub-turns Inv-loop μ-loop
 sub-turns c = search needs
 
-next-requires : tie.Need-next-requires Inv-loop μ-loop
-next-requires c κs = search needs
-
-sub-take-line : tie.Need-sub-take-line Inv-loop μ-loop
-sub-take-line c = search needs
-
-part-take-line-start : tie.Need-part-take-line-start Inv-loop μ-loop
-part-take-line-start c = search needs
-
-part-take-line-end : tie.Need-part-take-line-end Inv-loop μ-loop
-part-take-line-end c = search needs
+next-line-requires : tie.Need-next-line-requires Inv-loop μ-loop
+next-line-requires c κs = search needs
 
 take-line-requires : tie.Need-take-line-requires Inv-loop μ-loop
 take-line-requires c κs = search needs
@@ -44,7 +34,9 @@ loop-less : tie.Need-loop-less Inv-loop μ-loop
 loop-less c = search needs
 
 loop-again : tie.Need-loop-again Inv-loop μ-loop
-loop-again c = search needs
+loop-again c =
+    let i = c .before .before .before .before .before .before .before .before .before .before .before .before .before .before .before .before .before .before .before .before .before .before .before .before .before .before .loop .inv in
+    (search needs, search needs, search (needs, i .2), search (needs, i .3), search (needs, i .4), search (needs, i .5), search (needs, i .6), search (needs, i .7))
 
 same-length : tie.Need-same-length Inv-loop μ-loop
 same-length c = search needs
@@ -97,10 +89,7 @@ take-lines-spec =
     fresh-requires
     loop-holds
     sub-turns
-    next-requires
-    sub-take-line
-    part-take-line-start
-    part-take-line-end
+    next-line-requires
     take-line-requires
     loop-less
     loop-again
