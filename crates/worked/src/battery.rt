@@ -59,11 +59,9 @@ fn spring(script: &mut [u8; 6400], good: bool) {
 
 // ---- what it comes to
 
-fn so_many(name: &[u8], count: u64, sum: u64) {
-    say::words(name);
-    say::number(count);
-    say::words(b" of ");
-    say::number(sum);
+fn so_many(out: &mut [u8; 4096], name: &[u8], count: u64, sum: u64) {
+    say::value(out, name, count);
+    say::value(out, b" of ", sum);
 }
 
 // Whether what was booked is what was released and what is held.
@@ -74,39 +72,37 @@ fn all_there(takings: u64, remitted: u64, held: u64) -> bool {
     takings - held == remitted
 }
 
-fn outcome(t: Totals, count: u32, sum: u64) {
-    so_many(b"booked ", t.booked, t.takings);
-    so_many(b", released ", t.released, t.remitted);
-    so_many(b", held ", count as u64, sum);
-    say::words(b", refused ");
-    say::number(t.refused);
-    say::words(b", skipped ");
-    say::number(t.skipped);
+fn outcome(out: &mut [u8; 4096], t: Totals, count: u32, sum: u64) {
+    so_many(out, b"booked ", t.booked, t.takings);
+    so_many(out, b", released ", t.released, t.remitted);
+    so_many(out, b", held ", count as u64, sum);
+    say::value(out, b", refused ", t.refused);
+    say::value(out, b", skipped ", t.skipped);
     if all_there(t.takings, t.remitted, sum) {
-        say::words(b": nothing lost\n");
+        say::words(out, b": nothing lost\n");
     } else {
-        say::words(b": LOST\n");
+        say::words(out, b": LOST\n");
     }
 }
 
-fn told(t: Totals, journal: &[u8]) {
+fn told(out: &mut [u8; 4096], t: Totals, journal: &[u8]) {
     match journal::tell(journal) {
-        Told::Held(count, sum, _, _) => outcome(t, count, sum),
-        Told::Refused(why) => say::refused(why),
+        Told::Held(count, sum, _, _) => outcome(out, t, count, sum),
+        Told::Refused(why) => say::refused(out, why),
     }
 }
 
-fn played(script: &[u8], journal: &mut [u8]) {
+fn played(out: &mut [u8; 4096], script: &[u8], journal: &mut [u8]) {
     let mut scratch = [0u8; 37];
     match history::replay(script, b"", b"", &mut scratch, journal) {
-        Replayed::Played(t) => told(t, journal),
-        Replayed::NotWhole => say::words(b"no whole number of records\n"),
-        Replayed::TooLong => say::words(b"too many records\n"),
+        Replayed::Played(t) => told(out, t, journal),
+        Replayed::NotWhole => say::words(out, b"no whole number of records\n"),
+        Replayed::TooLong => say::words(out, b"too many records\n"),
     }
 }
 
 // The first n calls, played on an all-zero journal.
-fn after(words: &[u8], script: &[u8], n: usize) {
+fn after(out: &mut [u8; 4096], words: &[u8], script: &[u8], n: usize) {
     if 50 < n {
         return;
     }
@@ -114,35 +110,39 @@ fn after(words: &[u8], script: &[u8], n: usize) {
         return;
     }
     let mut journal = [0u8; 512];
-    say::words(words);
-    played(&script[0..128 * n], &mut journal);
+    say::words(out, words);
+    played(out, &script[0..128 * n], &mut journal);
 }
 
-fn stages(script: &[u8; 6400]) {
-    after(b"the first four released: ", script, 13);
-    after(b"the journal full: ", script, 21);
+fn stages(out: &mut [u8; 4096], script: &[u8; 6400]) {
+    after(out, b"the first four released: ", script, 13);
+    after(out, b"the journal full: ", script, 21);
     after(
+        out,
         b"two refused, the battery changed between them: ",
         script,
         23,
     );
-    after(b"a release, late: ", script, 24);
-    after(b"the same once more: ", script, 25);
-    after(b"full again: ", script, 31);
-    after(b"an older release: ", script, 32);
-    after(b"all released: ", script, 33);
-    after(b"at the end: ", script, 50);
+    after(out, b"a release, late: ", script, 24);
+    after(out, b"the same once more: ", script, 25);
+    after(out, b"full again: ", script, 31);
+    after(out, b"an older release: ", script, 32);
+    after(out, b"all released: ", script, 33);
+    after(out, b"at the end: ", script, 50);
 }
 
-fn play(good: bool) {
+fn play(out: &mut [u8; 4096], good: bool) {
     let mut script = [0u8; 6400];
     spring(&mut script, good);
-    stages(&script);
+    stages(out, &script);
 }
 
-pub fn run() {
-    say::words(b"\n# The battery swap: forty payments in a journal of 16 slots\n");
-    play(false);
-    say::words(b"# The same with a good battery\n");
-    play(true);
+pub fn run(out: &mut [u8; 4096]) {
+    say::words(
+        out,
+        b"\n# The battery swap: forty payments in a journal of 16 slots\n",
+    );
+    play(out, false);
+    say::words(out, b"# The same with a good battery\n");
+    play(out, true);
 }

@@ -8,56 +8,54 @@ use swipe::Swiped;
 const W11: [u8; 17] = *b"\x8B\x84\x10\x42\x08\x21\x84\x10\x42\x08\xA1\x89\x1A\x44\x80\xE1\x23";
 
 // A length, and what the lent bytes are afterwards.
-fn lent(what: &[u8], bytes: &[u8]) {
-    say::words(what);
-    say::number(bytes.len() as u64);
-    say::words(b" bytes, then ");
-    say::hex(bytes);
-    say::words(b": ");
+fn lent(out: &mut [u8; 4096], what: &[u8], bytes: &[u8]) {
+    say::value(out, what, bytes.len() as u64);
+    say::words(out, b" bytes, then ");
+    say::hex(out, bytes);
+    say::words(out, b": ");
 }
 
-fn mask_into(out: &mut [u8]) {
-    let answer = pan::mask(b"4111111111111111", out);
-    lent(b"mask 4111111111111111 into ", out);
-    say::tested(answer);
+fn mask_into(out: &mut [u8; 4096], room: &mut [u8]) {
+    let answer = pan::mask(b"4111111111111111", room);
+    lent(out, b"mask 4111111111111111 into ", room);
+    say::tested(out, answer);
 }
 
-fn mask(n: usize) {
-    let mut out = [46u8; 18];
+fn mask(out: &mut [u8; 4096], n: usize) {
+    let mut room = [46u8; 18];
     if n < 19 {
-        mask_into(&mut out[0..n]);
+        mask_into(out, &mut room[0..n]);
     }
 }
 
-fn read_into(stream: &[u8], bits: u64, out: &mut [u8]) {
-    let answer = track2::read(stream, bits, out);
-    lent(b" bits into ", out);
+fn read_into(out: &mut [u8; 4096], stream: &[u8], bits: u64, room: &mut [u8]) {
+    let answer = track2::read(stream, bits, room);
+    lent(out, b" bits into ", room);
     match answer {
-        Read::Forward(_) => say::words(b"read forward\n"),
-        Read::Reversed(_) => say::words(b"read reversed\n"),
-        Read::Refused(why) => say::refused(why),
+        Read::Forward(_) => say::words(out, b"read forward\n"),
+        Read::Reversed(_) => say::words(out, b"read reversed\n"),
+        Read::Refused(why) => say::refused(out, why),
     }
 }
 
-fn read(what: &[u8], stream: &[u8], bits: u64, n: usize) {
-    let mut out = [9u8; 38];
-    say::words(what);
-    say::number(bits);
+fn read(out: &mut [u8; 4096], what: &[u8], stream: &[u8], bits: u64, n: usize) {
+    let mut room = [9u8; 38];
+    say::value(out, what, bits);
     if n < 39 {
-        read_into(stream, bits, &mut out[0..n]);
+        read_into(out, stream, bits, &mut room[0..n]);
     }
 }
 
-fn reads() {
+fn reads(out: &mut [u8; 4096]) {
     let w11 = W11;
     let zeros = [0u8; 513];
-    read(b"track2 of W11, ", &w11, 135, 36);
-    read(b"track2 of W11, ", &w11, 135, 38);
-    read(b"track2 of zeros, ", &zeros, 4096, 38);
-    read(b"track2 of zeros, ", &zeros, 4097, 38);
+    read(out, b"track2 of W11, ", &w11, 135, 36);
+    read(out, b"track2 of W11, ", &w11, 135, 38);
+    read(out, b"track2 of zeros, ", &zeros, 4096, 38);
+    read(out, b"track2 of zeros, ", &zeros, 4097, 38);
 }
 
-fn swipe_with(scratch: &mut [u8]) {
+fn swipe_with(out: &mut [u8; 4096], scratch: &mut [u8]) {
     let w11 = W11;
     let mut journal = [0u8; 32];
     let answer = swipe::swipe(
@@ -70,64 +68,65 @@ fn swipe_with(scratch: &mut [u8]) {
         scratch,
         &mut journal,
     );
-    lent(b"swipe of W11 with scratch of ", scratch);
+    lent(out, b"swipe of W11 with scratch of ", scratch);
     match answer {
-        Swiped::Serial(_) => say::words(b"booked\n"),
-        Swiped::Refused(why) => say::refused(why),
+        Swiped::Serial(_) => say::words(out, b"booked\n"),
+        Swiped::Refused(why) => say::refused(out, why),
     }
 }
 
-fn swipe(n: usize) {
+fn swipe(out: &mut [u8; 4096], n: usize) {
     let mut scratch = [9u8; 38];
     if n < 39 {
-        swipe_with(&mut scratch[0..n]);
+        swipe_with(out, &mut scratch[0..n]);
     }
 }
 
-fn range(site: &[u8], acquirer: &[u8]) {
-    say::words(b"range of 4111111111111111 in tables of ");
-    say::number(site.len() as u64);
-    say::words(b" and ");
-    say::number(acquirer.len() as u64);
-    say::words(b" bytes: ");
+fn range(out: &mut [u8; 4096], site: &[u8], acquirer: &[u8]) {
+    say::value(
+        out,
+        b"range of 4111111111111111 in tables of ",
+        site.len() as u64,
+    );
+    say::value(out, b" and ", acquirer.len() as u64);
+    say::words(out, b" bytes: ");
     match ranges::find(site, acquirer, b"4111111111111111") {
-        Found::Refused(why) => say::refused(why),
-        _ => say::words(b"found\n"),
+        Found::Refused(why) => say::refused(out, why),
+        _ => say::words(out, b"found\n"),
     }
 }
 
-fn tables() {
+fn tables(out: &mut [u8; 4096]) {
     let zeros = [0u8; 65552];
-    range(&zeros[0..65536], b"");
-    range(&zeros, b"");
-    range(b"", &zeros[0..65536]);
-    range(b"", &zeros);
+    range(out, &zeros[0..65536], b"");
+    range(out, &zeros, b"");
+    range(out, b"", &zeros[0..65536]);
+    range(out, b"", &zeros);
 }
 
-fn tell(journal: &[u8]) {
-    say::words(b"tell of a journal of ");
-    say::number(journal.len() as u64);
-    say::words(b" bytes: ");
+fn tell(out: &mut [u8; 4096], journal: &[u8]) {
+    say::value(out, b"tell of a journal of ", journal.len() as u64);
+    say::words(out, b" bytes: ");
     match journal::tell(journal) {
-        Told::Held(_, _, _, _) => say::words(b"told\n"),
-        Told::Refused(why) => say::refused(why),
+        Told::Held(_, _, _, _) => say::words(out, b"told\n"),
+        Told::Refused(why) => say::refused(out, why),
     }
 }
 
-fn journals() {
+fn journals(out: &mut [u8; 4096]) {
     let zeros = [0u8; 65568];
-    tell(&zeros[0..65536]);
-    tell(&zeros);
+    tell(out, &zeros[0..65536]);
+    tell(out, &zeros);
 }
 
-pub fn run() {
-    say::words(b"\n# Lengths at their bounds\n");
-    mask(15);
-    mask(16);
-    mask(18);
-    tables();
-    reads();
-    journals();
-    swipe(36);
-    swipe(38);
+pub fn run(out: &mut [u8; 4096]) {
+    say::words(out, b"\n# Lengths at their bounds\n");
+    mask(out, 15);
+    mask(out, 16);
+    mask(out, 18);
+    tables(out);
+    reads(out);
+    journals(out);
+    swipe(out, 36);
+    swipe(out, 38);
 }

@@ -4,10 +4,16 @@ mod battery;
 mod lengths;
 mod parts;
 
+fn end(out: &mut [u8; 4096]) {
+    say::flush(out);
+}
+
 fn main() {
     let mut journal = [0u8; 65537];
     commands::run(&mut journal, commands::in_memory(true));
-    parts::run();
-    lengths::run();
-    battery::run();
+    let mut out = [0u8; 4096];
+    parts::run(&mut out);
+    lengths::run(&mut out);
+    battery::run(&mut out);
+    end(&mut out);
 }

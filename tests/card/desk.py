@@ -1,0 +1,150 @@
+"""Tests of the commands as people expect them: answers that arrive, lines as they are typed, help, dumps."""
+import os, subprocess
+
+from drive import CARD, OTHER, SLOT, SLOTS, lines, program, records, run, same, traced
+
+
+def journal_at(path, slots=SLOTS):
+    """An empty journal's file."""
+    path.write_bytes(bytes(SLOT * slots))
+    return path
+
+
+def unheard(script, *args, **where):
+    """What the program writes to standard error where standard output takes nothing."""
+    done = subprocess.run(program + [str(a) for a in args], input=script.encode(), stderr=subprocess.PIPE, timeout=600, **where)
+    return done.stderr.decode().splitlines()
+
+
+# ---- answers
+
+
+def few_writes(folder):
+    """Answers are written in large pieces: all of `held` in a few writes, and each command's before the next line is read."""
+    log = folder / "log"
+    script = f"book {CARD} 7 1 0\n" * SLOTS + "held\n"
+    done = subprocess.run(traced("-o", str(log), "-e", "trace=write"), input=script.encode(), stdout=subprocess.PIPE, check=True)
+    same(len(done.stdout.splitlines()), 2 * SLOTS + 1, "how many lines")
+    writes = [l for l in log.read_text().splitlines() if l.startswith("write(1,")]
+    same(len(writes) <= SLOTS + 4, True, f"{len(writes)} writes are few")
+
+
+def each_in_time(folder):
+    """An answer is there before the next line is sent."""
+    work = subprocess.Popen(program, stdin=subprocess.PIPE, stdout=subprocess.PIPE)
+    for serial in (1, 2, 3):
+        work.stdin.write(f"book {CARD} 7 1 0\n".encode())
+        work.stdin.flush()
+        same(work.stdout.readline(), f"booked {serial}\n".encode())
+    same(work.communicate(timeout=60)[0], b"")
+
+
+def full_output(folder):
+    """Standard output on a full disk: the first booking is told on standard error with the cause, and no other is taken."""
+    path = journal_at(folder / "journal")
+    with open("/dev/full", "wb") as full:
+        found = unheard(f"book {CARD} 7 250 0\nbook {CARD} 7 100 0\n" * 50, path, stdout=full)
+    same(found, ["card: standard output: No space left on device", "card: not written there:", "booked 1"])
+    same(records(path), {1: (1, 250)})
+
+
+def closed_pipe(folder):
+    """Standard output a closed pipe, with SIGPIPE ignored: the same."""
+    path = journal_at(folder / "journal")
+    reading, writing = os.pipe()
+    os.close(reading)
+    found = unheard(f"book {CARD} 7 250 0\nrelease 1\n", path, stdout=writing, restore_signals=False)
+    os.close(writing)
+    same(found, ["card: standard output: Broken pipe", "card: not written there:", "booked 1"])
+    same(records(path), {1: (1, 250)})
+
+
+def long_unheard(folder):
+    """An answer of more than one piece that can't be written: all of it is heard of."""
+    path = folder / "journal"
+    head = [s.to_bytes(4, "little") + bytes(4) + (9).to_bytes(4, "little") + bytes(2) for s in range(1, SLOTS + 1)]
+    path.write_bytes(b"".join(h + bytes([16, 1]) + b"4111111111" + bytes(6) for h in head))
+    with open("/dev/full", "wb") as full:
+        found = unheard("held\nrelease 1\n", path, stdout=full)
+    same(found[2:], [f"{s} 9 411111******1111 clock 0 label 0" for s in range(1, SLOTS + 1)] + [f"done {SLOTS}"])
+    same(lines("tell\n", path), [f"held {SLOTS} {9 * SLOTS} oldest 1 newest {SLOTS} left 0"])
+
+
+# ---- lines
+
+
+def crlf(folder):
+    """A script whose lines end in CR LF is answered as one whose lines end in LF."""
+    script = f"slots 3\nbook {CARD} 7 250 0\n\n# a comment\nW1: tell\nheld\nnothing\niban GB82 WEST 1234 5698 7654 32\nhelp\n"
+    same(run(script.replace("\n", "\r\n")), run(script))
+
+
+def groups(folder):
+    """An IBAN and a reference are understood however they are grouped."""
+    for command, text, wanted in (
+        ("iban", "GB82WEST12345698765432", "passes"),
+        ("creditor", "RF18539007547034", "passes"),
+        ("creditor-make", "539007547034", "pair 18"),
+        ("iban-make GB", "WEST12345698765432", "pair 82"),
+    ):
+        for size in (1, 2, 3, 4, 5, 40):
+            for gap in (" ", "  "):
+                parts = [text[i : i + size] for i in range(0, len(text), size)]
+                same(lines(f"{command} {gap.join(parts)} \n"), [wanted], f"{command} in groups of {size}")
+
+
+def every_example(folder):
+    """Each line of `help` begins with a command, whose example is understood and is answered as the line says."""
+    known = lines("help\n")
+    same(len(known) >= 23, True, "how many commands")
+    before = f"slots 4\nbook {CARD} 7 250 0\nsite 00000000FFFFFFFF07000D1300000000\n"
+    for line in known:
+        usage, rest = line.split(" -> ", 1)
+        answer, example = rest.rsplit(", e.g. ", 1)
+        same(example.split()[0], usage.split()[0], "the example's command")
+        found = lines(before + example + "\n")[3:]
+        same(found[0].startswith(("not understood", "refused")), False, f"{example}: {found[0]}")
+        first = answer.split()[0]
+        if first.islower() and first not in ("as", "these", "damaged"):
+            same(found[0].split()[0], first, f"{example}: its answer's first word")
+
+
+def nearest(folder):
+    """An unknown command is answered with the nearest one."""
+    for word, wanted in (("relase", "release"), ("bok", "book"), ("luhnmake", "luhn-make"), ("swype", "swipe"), ("survy", "survey"), ("Tell", "tell"), ("x" * 100000, None)):
+        found = lines(f"{word} 1\n")[0]
+        same(found.startswith("not understood: no such command (nearest: "), True, found)
+        if wanted:
+            same(found, f"not understood: no such command (nearest: {wanted}; help lists all)")
+
+
+# ---- journals
+
+
+def pasted_back(folder):
+    """A dump is taken back line by line, each no longer than a terminal takes, and gives the same journal."""
+    script = f"slots {SLOTS}\n" + "".join(f"book {CARD if s % 3 else OTHER} {s % 9} {s} {s * 7919}\n" for s in range(1, 3000)) + "release 700\n"
+    dump = run(script + "dump\n").decode().splitlines()
+    dump = dump[len(dump) - 1 - dump[::-1].index(f"slots {SLOTS}") :]
+    same(len(dump), SLOTS + 1, "how many lines")
+    same(max(map(len, dump)) < 255, True, "a terminal takes each line")
+    ask = "held\ntell\nsurvey\ndump\n"
+    same(run("\n".join(dump) + "\n" + ask).decode().splitlines()[SLOTS + 1 :], run(script + ask).decode().splitlines()[3001:])
+
+
+def decoded(folder):
+    """`show`, `held` and `tell` tell what the bytes say."""
+    found = lines(f"slots 3\nbook {CARD} 65535 4294967295 4294967295\nbook {OTHER} 8 100 5\nshow 1\nheld\ntell\n")[3:]
+    same(found[0], "record 01000000FFFFFFFFFFFFFFFFFFFF100134313131313131313131000000000000 serial 1 clock 4294967295 amount 4294967295 label 65535 card 411111******1111")
+    same(found[1:], ["1 4294967295 411111******1111 clock 4294967295 label 65535", "2 100 378282*****0005 clock 5 label 8", "done 2", "held 2 4294967395 oldest 1 newest 2 left 1"])
+
+
+def wrong_lengths(folder):
+    """A journal of a wrong length is refused with its length."""
+    for n, said in ((0, "0"), (1, "1"), (31, "31"), (100, "100"), (65537, "over 65536")):
+        wanted = f"refused 16: journal not well formed ({said} bytes; a journal has 32 to 65536, a multiple of 32)"
+        word = "00" * n or "-"
+        same(lines(f"journal {word}\nsurvey\ndump\n"), [wanted] * 3, f"{n} bytes")
+
+
+TESTS = [few_writes, each_in_time, full_output, closed_pipe, long_unheard, crlf, groups, every_example, nearest, pasted_back, decoded, wrong_lengths]
