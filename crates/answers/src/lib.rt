@@ -91,6 +91,7 @@ fn look(out: &mut [u8], c: Looking, line: &[u8], journal: &[u8], lost: bool) {
     match c {
         Looking::Dump => memory::dump(out, journal),
         Looking::Survey => survey::survey(out, journal),
+        Looking::Salvage => salvaging::salvage(out, journal),
         Looking::Show => records::show(out, line, journal),
         Looking::Tell => records::tell(out, journal),
         Looking::Held => records::held(out, journal),

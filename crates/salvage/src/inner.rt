@@ -107,7 +107,7 @@ fn held_in(s: Slot) -> u32
     }
 }
 
-// The serial of the whole record in each slot, 0 for none: a vote then looks at four bytes of a slot and not at all.
+// The serial of the whole record in each slot, 0 for none, so that a vote looks at a number and not at a slot.
 fn serials(j: &[u8], out: &mut [u32])
     requires { ⌜ (sized (length (now j)) ≡ true) × (2048 ≤ length (now out)) ⌝ }
     ensures { λ _. ⌜ Serials (now (j .entry)) (now (out .exit)) ⌝ }
@@ -283,6 +283,7 @@ fn with_slot(c: Counts, s: Slot) -> Counts
     }
 }
 
+// What the slots of a journal come to.
 pub fn counts(j: &[u8]) -> Counts
     requires { ⌜ sized (length (now j)) ≡ true ⌝ }
     ensures { λ r. ⌜ r ≡ countOf (toldAt (now (j .entry))) (slotsOf (now (j .entry))) ⌝ }

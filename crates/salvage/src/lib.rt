@@ -2,7 +2,7 @@
 // the journal not being well formed.
 use reasons::Reason;
 
-pub mod inner;
+mod inner;
 
 ghost use mathlib.Core.Path.{_≡_};
 ghost use Rattle.salvage.specs.Slot.{lookRule, saidLooked};
