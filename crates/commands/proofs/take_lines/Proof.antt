@@ -35,7 +35,9 @@ loop-less c = search needs
 
 loop-again : tie.Need-loop-again Inv-loop μ-loop
 loop-again c =
-    let i = c .before .before .before .before .before .before .before .before .before .before .before .before .before .before .before .before .before .before .before .before .before .before .before .before .before .before .loop .inv in
+    let answered = c .before .before .before .before .before .before .before .before in
+    let taken = answered .before .before .before .before .before .before .before in
+    let i = taken .before .before .before .before .before .before .before .before .before .before .before .loop .inv in
     (search needs, search needs, search (needs, i .2), search (needs, i .3), search (needs, i .4), search (needs, i .5), search (needs, i .6), search (needs, i .7))
 
 same-length : tie.Need-same-length Inv-loop μ-loop
