@@ -1,6 +1,6 @@
 # make test    every check of the project; its last line is that of rt ci, 'N passed, 0 failed'
 # make prove   rt ci alone: every crate proved from nothing, every must-fail edit tried, every program run
-# make built   the tests of what is built: the library against its reference, the program card, README's commands
+# make built   the tests of what is built: the library against its reference, the program card, damaged journals, README's commands
 # make run     the battery swap, told by the program card
 # make soak    the library held against the reference for as long as you like
 # make bench   what each call costs, beside plain C: docs/BENCHMARK.md
