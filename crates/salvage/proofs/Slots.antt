@@ -73,20 +73,20 @@ passed-all t p = simp (p .serial, p .slot, p .state, p .amount, p .len, p .digit
 
 -- ---- a slot's bytes are the journal's
 
+pub byte-at : (j : List ℕ) (k i : ℕ) → i < 32 → getD (slotAt j k) i 0 ≡ getD j (32 * k + i) 0
+byte-at j k i h = getD-take 32 (drop (32 * k) j) i 0 h ∙ getD-drop (32 * k) j i 0
+
 module _ (j : List ℕ) (k : ℕ) (there : 32 * k + 32 ≤ length j) where
   slot-length : length (slotAt j k) ≡ 32
   slot-length = length-take-le 32 (drop (32 * k) j) (omega (arith, length-drop (32 * k) j))
 
-  byte-at : (i : ℕ) → i < 32 → getD (slotAt j k) i 0 ≡ getD j (32 * k + i) 0
-  byte-at i h = getD-take 32 (drop (32 * k) j) i 0 h ∙ getD-drop (32 * k) j i 0
-
   word-at : (i : ℕ) → i + 4 ≤ 32 → u32At (slotAt j k) i ≡ u32At j (32 * k + i)
   unfolding u32At
   word-at i h =
-      let a = byte-at i (omega arith) in
-      let b = byte-at (i + 1) (omega arith) in
-      let c = byte-at (i + 2) (omega arith) in
-      let d = byte-at (i + 3) (omega arith) in
+      let a = byte-at j k i (omega arith) in
+      let b = byte-at j k (i + 1) (omega arith) in
+      let c = byte-at j k (i + 2) (omega arith) in
+      let d = byte-at j k (i + 3) (omega arith) in
       omega (
         arith,
         a,
@@ -102,7 +102,7 @@ module _ (j : List ℕ) (k : ℕ) (there : 32 * k + 32 ≤ length j) where
   byte-back : (x : ℕ) → 32 * k ≤ x → x < 32 * k + 32 → getD j x 0 ≡ getD (slotAt j k) (x - 32 * k) 0
   byte-back x l h =
       let e : 32 * k + (x - 32 * k) ≡ x = omega arith in
-      sym (ap (λ (y : ℕ). getD j y 0) e) ∙ sym (byte-at (x - 32 * k) (omega arith))
+      sym (ap (λ (y : ℕ). getD j y 0) e) ∙ sym (byte-at j k (x - 32 * k) (omega arith))
 
   -- ---- free
 
@@ -110,7 +110,7 @@ module _ (j : List ℕ) (k : ℕ) (there : 32 * k + 32 ≤ length j) where
   free-zeros e x l h = byte-back x l h ∙ every-zeros (slotAt j k) 0 e (x - 32 * k) (omega arith) (omega (arith, slot-length))
 
   pub zeros-free : Zeros j (32 * k) (32 * k + 32) → every isZero (slotAt j k) ≡ true
-  zeros-free z = zeros-every (slotAt j k) 0 (λ i l h. byte-at i (omega (arith, slot-length)) ∙ z (32 * k + i) (omega arith) (omega (arith, slot-length)))
+  zeros-free z = zeros-every (slotAt j k) 0 (λ i l h. byte-at j k i (omega (arith, slot-length)) ∙ z (32 * k + i) (omega arith) (omega (arith, slot-length)))
 
   -- ---- a record that belongs there
 
@@ -118,11 +118,11 @@ module _ (j : List ℕ) (k : ℕ) (there : 32 * k + 32 ≤ length j) where
   serial-at = word-at 0 (omega arith) ∙ ap (u32At j) (omega arith)
 
   pub state-at : stateAt (slotAt j k) 0 ≡ stateAt j (32 * k)
-  state-at = byte-at 15 (omega arith)
+  state-at = byte-at j k 15 (omega arith)
 
   -- place i of the n digits from 16 on
   digit-at : (n i : ℕ) → n ≤ 16 → i < n → getD (take n (drop 16 (slotAt j k))) i 0 ≡ getD j (32 * k + (16 + i)) 0
-  digit-at n i l h = getD-take n (drop 16 (slotAt j k)) i 0 h ∙ getD-drop 16 (slotAt j k) i 0 ∙ byte-at (16 + i) (omega arith)
+  digit-at n i l h = getD-take n (drop 16 (slotAt j k)) i 0 h ∙ getD-drop 16 (slotAt j k) i 0 ∙ byte-at j k (16 + i) (omega arith)
 
   digits-long : (n : ℕ) → n ≤ 16 → length (take n (drop 16 (slotAt j k))) ≡ n
   digits-long n l = length-take-le n (drop 16 (slotAt j k)) (omega (arith, length-drop 16 (slotAt j k), slot-length))
@@ -145,7 +145,7 @@ module _ (j : List ℕ) (k : ℕ) (there : 32 * k + 32 ≤ length j) where
   zeros-out : (n : ℕ) → Zeros j (32 * k + 16 + n) (32 * k + 32) → every isZero (drop (16 + n) (slotAt j k)) ≡ true
   zeros-out n z = zeros-every (slotAt j k) (16 + n) (λ i l h.
       let s = slot-length in
-      byte-at i (omega arith) ∙ z (32 * k + i) (omega arith) (omega arith))
+      byte-at j k i (omega arith) ∙ z (32 * k + i) (omega arith) (omega arith))
 
   pub passes-belongs : passes (testsOf (slotsOf j) k (slotAt j k)) ≡ true → Belongs j k
   unfolding testsOf
@@ -161,7 +161,7 @@ module _ (j : List ℕ) (k : ℕ) (there : 32 * k + 32 ≤ length j) where
           serial = refl;
           amount = omega (arith, ltb-true 0 (amountAt (slotAt j k) 0) (p .amount));
           state = sym (ap (λ (y : ℕ). isRecord y) x) ∙ p .state;
-          len = sym (λ i. lengthFits (x i) (byte-at 14 (omega arith) i)) ∙ p .len;
+          len = sym (λ i. lengthFits (x i) (byte-at j k 14 (omega arith) i)) ∙ p .len;
           digits = digits-in (kept (stateAt j (32 * k))) (kept-fits _) (sym (ap (λ (y : ℕ). allDigits (take (kept y) (drop 16 (slotAt j k)))) x) ∙ p .digits);
           zeros = zeros-in (kept (stateAt j (32 * k))) (sym (ap (λ (y : ℕ). every isZero (drop (16 + kept y) (slotAt j k))) x) ∙ p .zeros);
         };
@@ -179,7 +179,7 @@ module _ (j : List ℕ) (k : ℕ) (there : 32 * k + 32 ≤ length j) where
         slot = eq-eqb (place (slotsOf j) (serialAt (slotAt j k) 0)) (32 * k) (ap (place (slotsOf j)) s ∙ b .slot);
         state = ap (λ (y : ℕ). isRecord y) x ∙ g .state;
         amount = lt-ltb 0 (amountAt (slotAt j k) 0) (omega (arith, g .amount));
-        len = (λ i. lengthFits (x i) (byte-at 14 (omega arith) i)) ∙ g .len;
+        len = (λ i. lengthFits (x i) (byte-at j k 14 (omega arith) i)) ∙ g .len;
         digits = ap (λ (y : ℕ). allDigits (take (kept y) (drop 16 (slotAt j k)))) x ∙ digits-out (kept (stateAt j (32 * k))) (kept-fits _) (g .digits);
         zeros = ap (λ (y : ℕ). every isZero (drop (16 + kept y) (slotAt j k))) x ∙ zeros-out (kept (stateAt j (32 * k))) (g .zeros);
       })

@@ -78,3 +78,13 @@ surveyByte Free = 0
 surveyByte (Held f) = 1
 surveyByte (Released f) = 2
 surveyByte (Damaged f t) = 3
+
+-- what a slot says but for its clock
+abbrev pub clockless : Fields → Fields
+clockless f = record { serial = f .serial; clock = 0; amount = f .amount; label = f .label; length = f .length; state = f .state }
+
+abbrev pub butClock : Slot → Slot
+butClock Free = Free
+butClock (Held f) = Held (clockless f)
+butClock (Released f) = Released (clockless f)
+butClock (Damaged f t) = Damaged (clockless f) t
