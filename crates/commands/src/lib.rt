@@ -277,11 +277,11 @@ fn next_line(out: &mut [u8], input: &mut [u8], line: &mut [u8], s: Source, promp
 }
 
 fn take_lines(
-    out: &mut [u8],
-    input: &mut [u8],
-    line: &mut [u8],
-    site: &mut [u8],
-    acquirer: &mut [u8],
+    out: &mut [u8; 65544],
+    input: &mut [u8; 65536],
+    line: &mut [u8; 140000],
+    site: &mut [u8; 70000],
+    acquirer: &mut [u8; 70000],
     journal: &mut [u8],
     first: State,
 ) {

@@ -164,7 +164,8 @@ fn put_solid(b: u8, room: &mut [u8], n: usize) -> usize
 
 // A text without its spaces, into the front of the room, as far as there is room: how many bytes that are.
 pub fn solid(s: &[u8], room: &mut [u8]) -> usize
-    ensures { λ r. ⌜ (r ≡ length (take (length (now (room .entry))) (solid (now (s .entry))))) × (now (room .exit) ≡ put (now (room .entry)) 0 (take (length (now (room .entry))) (solid (now (s .entry))))) ⌝ }
+    ensures { λ r. ⌜ r ≡ length (take (length (now (room .entry))) (solid (now (s .entry)))) ⌝ }
+    ensures { λ _. ⌜ now (room .exit) ≡ put (now (room .entry)) 0 (take (length (now (room .entry))) (solid (now (s .entry)))) ⌝ }
 {
     let mut n = 0;
     let mut i = 0;

@@ -8,9 +8,7 @@ use Rattle.commands.proofs.take_lines.Tie as tie
 
 abbrev Inv-loop : tie.InvT-loop
 Inv-loop out₀ input₀ line₀ site₀ acquirer₀ journal₀ st₀ source₀ turns₀ out input line site acquirer journal st source turns =
-    (source .at ≤ source .end) × (source .end ≤ length input)
-    × (length out ≡ length out₀) × (length input ≡ length input₀) × (length line ≡ length line₀)
-    × (length site ≡ length site₀) × (length acquirer ≡ length acquirer₀) × (length journal ≡ length journal₀)
+    (source .at ≤ source .end) × (source .end ≤ 65536) × (length journal ≡ length journal₀)
 
 abbrev μ-loop : tie.MeasureT-loop
 μ-loop out₀ input₀ line₀ site₀ acquirer₀ journal₀ st₀ source₀ turns₀ out input line site acquirer journal st source turns = turns
@@ -34,50 +32,16 @@ loop-less : tie.Need-loop-less Inv-loop μ-loop
 loop-less c = search needs
 
 loop-again : tie.Need-loop-again Inv-loop μ-loop
-loop-again c =
-    let answered = c .before .before .before .before .before .before .before .before in
-    let taken = answered .before .before .before .before .before .before .before in
-    let i = taken .before .before .before .before .before .before .before .before .before .before .before .loop .inv in
-    (search needs, search needs, search (needs, i .2), search (needs, i .3), search (needs, i .4), search (needs, i .5), search (needs, i .6), search (needs, i .7))
+loop-again c = (search needs, search needs, search (needs, c .before .before .before .before .before .before .before .before .before .before .before .before .before .before .before .loop .inv .2))
 
 same-length : tie.Need-same-length Inv-loop μ-loop
 same-length c = search needs
 
-same-length-2 : tie.Need-same-length-2 Inv-loop μ-loop
-same-length-2 c = search needs
-
-same-length-3 : tie.Need-same-length-3 Inv-loop μ-loop
-same-length-3 c = search needs
-
-same-length-4 : tie.Need-same-length-4 Inv-loop μ-loop
-same-length-4 c = search needs
-
-same-length-5 : tie.Need-same-length-5 Inv-loop μ-loop
-same-length-5 c = search needs
-
-same-length-6 : tie.Need-same-length-6 Inv-loop μ-loop
-same-length-6 c = search needs
-
 returns : tie.Need-returns Inv-loop μ-loop
 returns c = search needs
 
-same-length-7 : tie.Need-same-length-7 Inv-loop μ-loop
-same-length-7 c = search needs
-
-same-length-8 : tie.Need-same-length-8 Inv-loop μ-loop
-same-length-8 c = search needs
-
-same-length-9 : tie.Need-same-length-9 Inv-loop μ-loop
-same-length-9 c = search needs
-
-same-length-10 : tie.Need-same-length-10 Inv-loop μ-loop
-same-length-10 c = search needs
-
-same-length-11 : tie.Need-same-length-11 Inv-loop μ-loop
-same-length-11 c = search needs
-
-same-length-12 : tie.Need-same-length-12 Inv-loop μ-loop
-same-length-12 c = search needs
+same-length-2 : tie.Need-same-length-2 Inv-loop μ-loop
+same-length-2 c = search needs
 
 returns-2 : tie.Need-returns-2 Inv-loop μ-loop
 returns-2 c = search needs
@@ -96,16 +60,6 @@ take-lines-spec =
     loop-less
     loop-again
     same-length
-    same-length-2
-    same-length-3
-    same-length-4
-    same-length-5
-    same-length-6
     returns
-    same-length-7
-    same-length-8
-    same-length-9
-    same-length-10
-    same-length-11
-    same-length-12
+    same-length-2
     returns-2)
