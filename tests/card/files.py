@@ -1,7 +1,7 @@
 """The program `card` on files: made, opened, locked, changed, cut and full."""
 import os, pathlib, pty, re, select, signal, subprocess, time
 
-from drive import CARD, OTHER, SLOT, SLOTS, Session, Skipped, begin, both, lines, made, program, records, same, traced
+from drive import CARD, OTHER, SLOT, SLOTS, Session, Skipped, begin, both, lines, made, program, records, root, same, traced
 
 
 def kept(folder):
@@ -108,7 +108,8 @@ def options(folder):
             for words in asked:
                 same(both("tell\n", *words.split()), (b"", f"card: {why}{usage}\n".encode()), words)
         same(sorted(folder.iterdir()), [], "files in the folder")
-        same(lines("", "--version"), ["goltwarden 1"])
+        header = (root / "include/goltwarden.h").read_text()
+        same(lines("", "--version"), ["goltwarden " + re.search(r"#define GW_VERSION (\d+)", header)[1]])
         same(lines("luhn 18\n", "--help")[0].startswith("card "), True, "help")
         begin(lines("tell\n", "--new", 4, "--", "--help"), ["held 0 0 oldest 0 newest 0"])
         begin(lines("tell\n", "--", "--help"), ["held 0 0 oldest 0 newest 0"])
@@ -139,15 +140,15 @@ def no_descriptors(folder):
     path = made(folder / "journal", 4)
     script = folder / "script"
     script.write_text(f"book {CARD} 7 250 0\n" * 6 + "x\n" * 2000)
-    taken = records(path)
+    taken = records(path, 4)
     for closed in ("<&-", ">&-", "2>&-", ">&- 2>&-", "<&- >&-", "<&- >&- 2>&-"):
         for given in (path, folder / "none", folder):
             opened = closed if "<" in closed else f'< "{script}" {closed}'
             subprocess.run(["sh", "-c", f'exec "$@" {opened}', "sh", *program, str(given)], stdout=subprocess.PIPE, stderr=subprocess.PIPE, timeout=600)
         same(len(path.read_bytes()), 4 * SLOT, f"length after {closed}")
         if ">&-" in closed.replace("2>&-", ""):
-            same(records(path), taken, f"payments taken that nobody hears of, after {closed}")
-        taken = records(path)
+            same(records(path, 4), taken, f"payments taken that nobody hears of, after {closed}")
+        taken = records(path, 4)
         same(lines("survey\n", path)[-1].endswith(" damaged 0 well formed"), True, f"well formed after {closed}")
     same(sorted(p.name for p in folder.iterdir()), ["journal", "script"], "files in the folder")
 
