@@ -72,7 +72,8 @@ static bool store_find(struct store *s, const char *path)
 
 /* The file opened, locked against every other program, and read. What was read is on
  * the disk before it is used: a program that was stopped before its sync may have
- * written it. */
+ * written it. Assumed: no sync has failed since the machine started. After one that
+ * did, the system may show bytes that the disk hasn't; start the machine anew. */
 static bool store_open(struct store *s, const char *path, uint32_t slots)
 {
     struct stat found;
