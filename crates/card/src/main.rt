@@ -13,7 +13,7 @@ ghost use lib.ListN.{length};
 fn help() {
     let mut out = io::buffer();
     notices::help();
-    commands::help(&mut out);
+    menu::help(&mut out);
     say::flush(&mut out);
 }
 

@@ -45,11 +45,6 @@ pub fn in_memory(shown: bool) -> State
     }
 }
 
-// Lists the commands.
-pub fn help(out: &mut [u8]) {
-    menu::help(out);
-}
-
 // ---- tables
 
 fn on_tables(

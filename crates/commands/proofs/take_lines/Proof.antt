@@ -32,7 +32,13 @@ loop-less : tie.Need-loop-less Inv-loop μ-loop
 loop-less c = search needs
 
 loop-again : tie.Need-loop-again Inv-loop μ-loop
-loop-again c = (search needs, search needs, search (needs, c .before .before .before .before .before .before .before .before .before .before .before .before .before .before .before .loop .inv .2))
+loop-again c =
+    let call = c .before .before .before in
+    let arguments = call .before .before .before in
+    let not-ended = arguments .before .before .before in
+    let asking = not-ended .before .before .before in
+    let turn = asking .before .before .before in
+    (search needs, search needs, search (needs, turn .loop .inv .2))
 
 same-length : tie.Need-same-length Inv-loop μ-loop
 same-length c = search needs
