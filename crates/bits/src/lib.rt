@@ -52,13 +52,7 @@ fn is_odd(n: u8, p: u8) -> bool
     requires { ⌜ p ≤ 1 ⌝ }
     ensures { λ r. ⌜ r ≡ eqb ((Count.ones n + p) % 2) 1 ⌝ }
 {
-    let mut ones = p;
-    let mut left = n;
-    while 0 < left {
-        ones += left % 2;
-        left = left / 2;
-    }
-    ones % 2 == 1
+    (u8::count_ones(n) + p as u32) % 2 == 1
 }
 
 // The character at a place: its number, or why there is none.
