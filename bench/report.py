@@ -15,11 +15,10 @@ import sys
 LIMIT = 1.2
 
 # Row: why the library is above LIMIT times plain C there.
-BIT_BY_BIT = (
-    "both sides read bit by bit; here the width is a value (five bits, or seven for track 1), each bit is fetched by itself in the direction asked for, "
-    "and parity is added up. Requests E2 (parity) and E9 (two characters at a look) are to replace that."
-)
-NOTES = {"track2_read.forward": BIT_BY_BIT, "track2_read.reversed": BIT_BY_BIT}
+NOTES = {
+    "track2_read.forward": "both sides read bit by bit; here the width is a value (five bits, or seven for track 1), and each bit is fetched by "
+                           "itself in the direction asked for. Request E9 (two characters at a look) is to replace that.",
+}
 
 LIBRARY, PLAIN, NOTHING = range(3)
 EMPTY_CALL = 2  # the instructions of a call that does nothing
