@@ -9,4 +9,5 @@ pub mod FlipBytes
 pub mod Lengths
 pub mod Laws
 pub mod Refusals
+pub mod Counts
 pub mod Seven

@@ -1,9 +1,10 @@
 -- What the stripe says of a card, step by step: the reading, the layout, Luhn and the look-up. Assumes nothing.
-use Prim.Native.Nat.{ℕ, _+_, _-_, _≤_}
+use Prim.Native.Nat.{ℕ, zero, suc, _+_, _-_, _≤_}
 use mathlib.Core.Path.{_≡_, refl, sym, ap, _∙_, subst}
 use mathlib.Core.Bool.{Bool, true, false}
-use mathlib.Core.List.{List, _++_}
+use mathlib.Core.List.{List, [], _∷_, _++_}
 use native.Mathlib.Omega.{arith}
+use native.Mathlib.Nat.{add-sub-cancel-left}
 use borrow.Author.Tests.{le-leb}
 use lib.ListN.{length, take, drop}
 use lib.Seq.{take-take, length-take-le, drop-append-add, drop-drop}
@@ -16,20 +17,39 @@ use Rattle.reasons.proofs.Laws.{passed, went-on, gives-refuses}
 use Rattle.luhn.specs.Luhn.{passes, luhnRule}
 use Rattle.pan.specs.Pan.{panLength}
 use Rattle.ranges.specs.Ranges.{labelRule}
-use Rattle.bits.specs.Reading.{Track, readRule, counted}
-use Rattle.track2.specs.Track2.{track2Rule, track2Bytes}
-use Rattle.track2.proofs.Laws.{at-most-37}
-use Rattle.layout.specs.Layout.{Places, layoutRule}
+use Rattle.bits.specs.Reading.{Format, Track as Read, readRule, readBytes, counted}
+use Rattle.bits.proofs.Laws.{chars-fit}
+use Rattle.bits.proofs.Counts as counts
+use Rattle.layout.specs.Layout.{Cut, layoutRule}
 use Rattle.layout.proofs.Laws.{accepted-form, pan-fits}
 use Rattle.journal.proofs.Rule.{Fine}
-use Rattle.swipe.specs.Swipe.{Given, Payer, payerRule, charsRule, cardRule, saidCard, panSize}
+use Rattle.swipe.specs.Swipe.{format, placeRule, room, Given, Payer, payerRule, partOf, charsRule, cardRule, saidCard, panEnd, PanAt}
+use Rattle.swipe.specs.declared.Track.{Track}
+use Rattle.swipe.specs.declared.Track.the-variants.{Two}
 use Rattle.swipe.specs.declared.Card.{Card}
 use Rattle.swipe.specs.declared.Card.the-variants.{Pays, Refused}
 
+pub only-two : (k : Track) → Two ≡ k
+only-two Two = refl
+
+pub room-small : (k : Track) → room k ≤ 76
+room-small Two = omega arith
+
+-- a part that ends within the front of a text
+part-front : (a n m : ℕ) (s : List ℕ) → a + n ≤ m → partOf (take m s) a n ≡ partOf s a n
+part-front zero n m s h = take-take n m s (omega arith)
+part-front (suc a) n zero s h = absurd (omega arith)
+part-front (suc a) n (suc m) [] h = refl
+part-front (suc a) n (suc m) (b ∷ s) h = part-front a n m s (omega arith)
+
+-- a part from a place up to its end
+pub part-is : (s : List ℕ) (a n : ℕ) → take (a + n - a) (drop a s) ≡ partOf s a n
+part-is s a n = rw add-sub-cancel-left
+
 -- a card's PAN stands in the front of the scratch, so what follows it does not matter
-pub card-front : (r : Card) (n : ℕ) (s : List ℕ) → panSize r ≤ n → saidCard r (take n s) ≡ saidCard r s
-card-front (Pays k l) n s h = ap (λ (p : List ℕ). gives (record { pan = p; label = l })) (take-take k n s h)
-card-front (Refused r) n s h = refl
+pub card-front : (r : Card) (m : ℕ) (s : List ℕ) → panEnd r ≤ m → saidCard r (take m s) ≡ saidCard r s
+card-front (Pays a n l) m s h = ap (λ (p : List ℕ). gives (record { pan = p; label = l })) (part-front a n m s h)
+card-front (Refused r) m s h = refl
 
 -- ---- of a PAN
 
@@ -60,7 +80,7 @@ module _ (site acquirer pan : List ℕ) (l : panLength (length pan) ≡ true) (d
   with-label x e f = simp (luhn-passed e, f)
 
 -- a PAN that pays passes, and is the PAN that was asked about
-pub pan-pays : (site acquirer pan : List ℕ) (p : Payer) → payerRule site acquirer pan ≡ gives p → (passes pan ≡ true) × (p .pan ≡ pan)
+pan-pays : (site acquirer pan : List ℕ) (p : Payer) → payerRule site acquirer pan ≡ gives p → (passes pan ≡ true) × (p .pan ≡ pan)
 unfolding payerRule
 pan-pays site acquirer pan p e =
     let a = passed (passes pan) 4 _ p e in
@@ -70,58 +90,38 @@ pan-pays site acquirer pan p e =
 
 -- ---- of the characters
 
--- the PAN of an accepted layout: a front of the characters, 13 to 19 digits
-pub record Laid (chars : List ℕ) (n : ℕ) : Type 0 where
-  pub fits : n ≤ length chars
-  pub count : panLength (length (take n chars)) ≡ true
-  pub digits : allDigits (take n chars) ≡ true
+-- where a division puts the PAN there is one
+pub pan-there : (k : Track) (chars : List ℕ) (c : Cut) → placeRule k chars ≡ gives c → PanAt chars (c .start) (c .size)
+pan-there Two chars c e =
+    let a = went-on (layoutRule chars) _ c e in
+    let f = accepted-form chars (a .0) (a .1) .formed in
+    let z : record { start = 0; size = a .0 .pan } ≡ c = cc (a .2) in
+    subst (λ (x : Cut). PanAt chars (x .start) (x .size)) z
+    (record { fits = omega (arith, pan-fits chars (a .0) (a .1)); count = f .pan-length; digits = f .pan-digits })
 
-pub laid : (chars : List ℕ) (d : Places) → layoutRule chars ≡ gives d → Laid chars (d .pan)
-laid chars d e =
-    let f = accepted-form chars d e .formed in
-    record { fits = pan-fits chars d e; count = f .pan-length; digits = f .pan-digits }
-
-module _ (site acquirer chars : List ℕ) where
-  pub bad-layout : (n : ℕ) → layoutRule chars ≡ refuses n → charsRule site acquirer chars ≡ refuses n
+module _ (k : Track) (site acquirer chars : List ℕ) where
+  pub bad-layout : (n : ℕ) → placeRule k chars ≡ refuses n → charsRule k site acquirer chars ≡ refuses n
   unfolding charsRule
   bad-layout n e = rw e
 
-  with-pan : (d : Places) → layoutRule chars ≡ gives d → charsRule site acquirer chars ≡ payerRule site acquirer (take (d .pan) chars)
+  pub with-pan : (a n : ℕ) → placeRule k chars ≡ gives (record { start = a; size = n }) → charsRule k site acquirer chars ≡ payerRule site acquirer (partOf chars a n)
   unfolding charsRule
-  with-pan d e = rw e
+  with-pan a n e = rw e
 
-  pub chars-card : (d : Places) (r : Card) → layoutRule chars ≡ gives d → saidCard r (take (d .pan) chars) ≡ payerRule site acquirer (take (d .pan) chars)
-      → panSize r ≤ length (take (d .pan) chars) → (saidCard r chars ≡ charsRule site acquirer chars) × (panSize r ≤ length chars)
-  chars-card d r e f h =
-      let fits = laid chars d e .fits in
-      let k = length-take-le (d .pan) chars fits in
-      (sym (card-front r (d .pan) chars (omega arith)) ∙ f ∙ sym (with-pan d e), omega arith)
-
-pub chars-pay : (site acquirer chars : List ℕ) (p : Payer) → charsRule site acquirer chars ≡ gives p → Fine (p .pan)
-unfolding charsRule
-chars-pay site acquirer chars p e =
-    let a = went-on (layoutRule chars) _ p e in
-    let l = laid chars (a .0) (a .1) in
-    let b = pan-pays site acquirer (take (a .0 .pan) chars) p (a .2) in
-    subst Fine (sym (b .1)) (record { count = l .count; digits = l .digits; sum = b .0 })
+  chars-pay : (p : Payer) → charsRule k site acquirer chars ≡ gives p → Fine (p .pan)
+  unfolding charsRule
+  chars-pay p e =
+      let a = went-on (placeRule k chars) _ p e in
+      let l = pan-there k chars (a .0) (a .1) in
+      let b = pan-pays site acquirer (partOf chars (a .0 .start) (a .0 .size)) p (a .2) in
+      subst Fine (sym (b .1)) (record { count = l .count; digits = l .digits; sum = b .0 })
 
 -- ---- of the stripe
 
--- an output of 37 bytes or more is as good as one of 37
-room-enough : (s : List ℕ) (bits n : ℕ) → 37 ≤ n → track2Rule s bits n ≡ track2Rule s bits 37
+-- an output that is longer than the reading asks for is as good as one that is just as long
+room-enough : (f : Format) (s : List ℕ) (bits n : ℕ) → f .limit - 2 ≤ n → readRule f s bits n ≡ readRule f s bits (f .limit - 2)
 unfolding readRule
-room-enough s bits n h = simp (le-leb 37 n h)
-
--- what is counted was read, and what isn't was refused
-counted-given : (o : Outcome Track) (w : Bool) (n : ℕ) → counted o ≡ gives (w, n) → (t : Track) × (o ≡ gives t) × (length (t .chars) ≡ n)
-counted-given o w n e =
-    let a = went-on o _ (w, n) e in
-    let z : _≡_ {A = Bool × ℕ} (a .0 .reversed, length (a .0 .chars)) (w, n) = cc (a .2) in
-    (a .0, a .1, ap (λ (p : Bool × ℕ). p .1) z)
-
-counted-refused : (o : Outcome Track) (n : ℕ) → counted o ≡ refuses n → o ≡ refuses n
-counted-refused (gives t) n e = gives-refuses _ n e
-counted-refused (refuses m) n e = cc
+room-enough f s bits n h = simp (le-leb (f .limit - 2) n h, le-leb (f .limit - 2) (f .limit - 2) (omega arith))
 
 -- what is written over the front leaves the rest
 rest-stays : (out vs : List ℕ) (m : ℕ) → length vs ≤ m → drop m (put out 0 vs) ≡ drop m out
@@ -138,42 +138,48 @@ rest-stays out vs m h =
 -- n characters were read into the scratch, `out` before and `new` after it
 pub record ReadSo (g : Given) (out new : List ℕ) (n : ℕ) : Type 0 where
   pub fits : n ≤ length new
-  pub goes : charsRule (g .site) (g .acquirer) (take n new) ≡ cardRule g
-  pub rest : drop 37 new ≡ drop 37 out
+  pub goes : charsRule (g .track) (g .site) (g .acquirer) (take n new) ≡ cardRule g
+  pub rest : drop (room (g .track)) new ≡ drop (room (g .track)) out
 
-pub read-card : (g : Given) (out new : List ℕ) (n : ℕ) (r : Card) → ReadSo g out new n → saidCard r (take n new) ≡ charsRule (g .site) (g .acquirer) (take n new)
-    → panSize r ≤ length (take n new) → (saidCard r new ≡ cardRule g) × (panSize r ≤ length new) × (drop 37 new ≡ drop 37 out)
+pub read-card : (g : Given) (out new : List ℕ) (n : ℕ) (r : Card) → ReadSo g out new n
+    → saidCard r (take n new) ≡ charsRule (g .track) (g .site) (g .acquirer) (take n new) → panEnd r ≤ length (take n new)
+    → (saidCard r new ≡ cardRule g) × (panEnd r ≤ length new) × (drop (room (g .track)) new ≡ drop (room (g .track)) out)
 read-card g out new n r s e h =
     let k = length-take-le n new (s .fits) in
     (sym (card-front r n new (omega arith)) ∙ e ∙ s .goes, omega (arith, s .fits), s .rest)
 
-module _ (g : Given) (out new : List ℕ) (long : 37 ≤ length out) (wrote : new ≡ track2Bytes (g .stream) (g .bits) out) where
-  pub unread : (n : ℕ) → refuses n ≡ counted (track2Rule (g .stream) (g .bits) (length out)) → (refuses n ≡ cardRule g) × (drop 37 new ≡ drop 37 out)
+module _ (g : Given) (out new : List ℕ) (long : room (g .track) ≤ length out) (wrote : new ≡ readBytes (format (g .track)) (g .stream) (g .bits) out) where
+  pub unread : (n : ℕ) → refuses n ≡ counted (readRule (format (g .track)) (g .stream) (g .bits) (length out))
+      → (refuses n ≡ cardRule g) × (drop (room (g .track)) new ≡ drop (room (g .track)) out)
   unfolding cardRule
   unread n e =
-      let o = counted-refused (track2Rule (g .stream) (g .bits) (length out)) n (sym e) in
-      let f = sym (room-enough (g .stream) (g .bits) (length out) long) ∙ o in
+      let o = sym (counts.refused (readRule (format (g .track)) (g .stream) (g .bits) (length out)) n e) in
+      let f = sym (room-enough (format (g .track)) (g .stream) (g .bits) (length out) long) ∙ o in
       let same : new ≡ out = wrote ∙ rw o in
-      (rw f, ap (drop 37) same)
+      (rw f, ap (drop (room (g .track))) same)
 
-  track-so : (t : Track) (n : ℕ) → track2Rule (g .stream) (g .bits) (length out) ≡ gives t → length (t .chars) ≡ n → ReadSo g out new n
+  track-so : (t : Read) (n : ℕ) → readRule (format (g .track)) (g .stream) (g .bits) (length out) ≡ gives t → n ≡ length (t .chars) → ReadSo g out new n
   unfolding cardRule
   track-so t n e c =
-      let few = at-most-37 (g .stream) (g .bits) (length out) t e in
+      let few = chars-fit (format (g .track)) (g .stream) (g .bits) (length out) t e in
       let now : new ≡ put out 0 (t .chars) = wrote ∙ rw e in
-      let f = sym (room-enough (g .stream) (g .bits) (length out) long) ∙ e in
+      let f = sym (room-enough (format (g .track)) (g .stream) (g .bits) (length out) long) ∙ e in
       let size : length new ≡ length out = ap length now ∙ length-put out (t .chars) 0 (omega arith) in
-      let front : take n new ≡ t .chars = ap (take n) now ∙ ap (λ (m : ℕ). take m (put out 0 (t .chars))) (sym c) ∙ put-front out (t .chars) in
-      record { fits = omega arith; goes = ap (charsRule (g .site) (g .acquirer)) front ∙ rw f; rest = ap (drop 37) now ∙ rest-stays out (t .chars) 37 few }
+      let front : take n new ≡ t .chars = ap (take n) now ∙ ap (λ (m : ℕ). take m (put out 0 (t .chars))) c ∙ put-front out (t .chars) in
+      record {
+        fits = omega arith;
+        goes = ap (charsRule (g .track) (g .site) (g .acquirer)) front ∙ rw f;
+        rest = ap (drop (room (g .track))) now ∙ rest-stays out (t .chars) (room (g .track)) few;
+      }
 
-  pub read-so : (w : Bool) (n : ℕ) → gives (w, n) ≡ counted (track2Rule (g .stream) (g .bits) (length out)) → ReadSo g out new n
+  pub read-so : (w : Bool) (n : ℕ) → gives (w, n) ≡ counted (readRule (format (g .track)) (g .stream) (g .bits) (length out)) → ReadSo g out new n
   read-so w n e =
-      let a = counted-given (track2Rule (g .stream) (g .bits) (length out)) w n (sym e) in
-      track-so (a .0) n (a .1) (a .2)
+      let b = counts.behind (readRule (format (g .track)) (g .stream) (g .bits) (length out)) w n e in
+      track-so (b .track) n (sym (b .is)) (b .count)
 
 -- a card that pays has a PAN that may be booked
 pub card-pays : (g : Given) (p : Payer) → cardRule g ≡ gives p → Fine (p .pan)
 unfolding cardRule
 card-pays g p e =
-    let a = went-on (track2Rule (g .stream) (g .bits) 37) _ p e in
-    chars-pay (g .site) (g .acquirer) (a .0 .chars) p (a .2)
+    let a = went-on (readRule (format (g .track)) (g .stream) (g .bits) (room (g .track))) _ p e in
+    chars-pay (g .track) (g .site) (g .acquirer) (a .0 .chars) p (a .2)

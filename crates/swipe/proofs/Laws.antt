@@ -1,34 +1,33 @@
 -- The laws of the swipe. Assumes nothing.
 use Prim.Native.Nat.{ℕ, _+_, _≤_, _<_}
-use mathlib.Core.Path.{_≡_, refl, sym, ap, _∙_}
-use mathlib.Core.Bool.{Bool, true, false, not}
+use mathlib.Core.Path.{_≡_, refl, sym, ap, _∙_, subst⁻¹}
 use mathlib.Core.List.{List}
 use native.Mathlib.Omega.{arith}
 use native.Mathlib.Decide.{decLe}
-use borrow.Author.Tests.{le-leb, leb-true, eqb-false, not-true}
-use lib.Dec.{leb, eqb}
-use lib.ListN.{length, getD, replicate, getD-replicate}
+use borrow.Author.Tests.{le-leb, leb-true}
+use lib.Dec.{leb}
+use lib.ListN.{length, getD, replicate, length-replicate, getD-replicate}
 use Rattle.text.specs.Numbers.{put}
 use Rattle.text.proofs.Put.{put-in, put-after}
-use Rattle.reasons.specs.Reasons.{Outcome, gives, refuses, demand, after, numberOf}
+use Rattle.reasons.specs.Reasons.{Outcome, gives, refuses, andThen, after, numberOf}
 use Rattle.reasons.specs.declared.Reason.{Reason}
-use Rattle.reasons.proofs.Laws.{passed, gives-refuses, refuses-one}
+use Rattle.reasons.proofs.Laws.{passed, went-on, gives-refuses, refuses-one}
 use Rattle.pan.specs.Pan.{shown}
-use Rattle.ranges.specs.Ranges.{tableOk}
 use Rattle.slots.specs.Record.{record32}
-use Rattle.slots.specs.Views.{formed, newest}
+use Rattle.slots.specs.Views.{newest}
 use Rattle.slots.specs.declared.Newest.{Newest}
-use Rattle.slots.specs.declared.Newest.the-variants.{Malformed, Is}
 use Rattle.slots.proofs.Views.{view-one}
 use Rattle.journal.specs.Rules.{full, bookRule, bookBytes, saidBooked, Books}
 use Rattle.journal.specs.declared.Booked.{Booked}
 use Rattle.journal.specs.declared.Booked.the-variants as booked
 use Rattle.journal.proofs.Rule.{Fine, book-done}
-use Rattle.swipe.specs.Swipe.{Given, Payer, cardRule, swipeRule, swipeAnswer, swipeBytes, swipeScratch, saidSwiped, Swipes}
+use Rattle.swipe.specs.Swipe.{room, Given, given, Payer, cardRule, boxRule, readyRule, swipeRule, swipeAnswer, swipeBytes, swipeScratch, saidSwiped, Swipes}
+use Rattle.swipe.specs.declared.Track.{Track}
+use Rattle.swipe.specs.declared.Track.the-variants.{Two}
 use Rattle.swipe.specs.declared.Swiped.{Swiped}
 use Rattle.swipe.specs.declared.Swiped.the-variants.{Serial, Refused}
 use Rattle.swipe.proofs.Cards.{card-pays}
-use Rattle.swipe.proofs.Steps.{short-scratch, kept-short}
+use Rattle.swipe.proofs.Steps.{Open, opened, short-scratch, kept-short}
 
 -- what is said tells the answer
 pub swiped-one : (r q : Swiped) → saidSwiped r ≡ saidSwiped q → r ≡ q
@@ -38,16 +37,16 @@ swiped-one (Refused x) (Serial b) e = gives-refuses b (numberOf x) (sym e)
 swiped-one (Refused x) (Refused y) e = ap Refused (refuses-one x y e)
 
 -- a short scratch is refused and leaves the journal, whatever the journal's view
-short-so : (m : Newest) (g : Given) (amount clock room : ℕ) (j : List ℕ) → room < 37 → (swipeAnswer m g amount room j ≡ refuses 1) × (swipeBytes m g amount room clock j ≡ j)
+short-so : (m : Newest) (g : Given) (amount clock space : ℕ) (j : List ℕ) → space < room (g .track) → (swipeAnswer m g amount space j ≡ refuses 1) × (swipeBytes m g amount space clock j ≡ j)
 unfolding swipeAnswer swipeBytes
-short-so m g amount clock room j h = let e = short-scratch m g amount room j h in (rw e, rw e)
+short-so m g amount clock space j h = let e = short-scratch m g amount space j h in (rw e, rw e)
 
 -- any two outcomes that a swipe allows are equal: answer, scratch and journal
 pub swipe-one : (g : Given) (amount clock : ℕ) (t j : List ℕ) (r q : Swiped) (u v k l : List ℕ)
     → Swipes g amount clock t j r u k → Swipes g amount clock t j q v l → (r ≡ q) × (u ≡ v) × (k ≡ l)
-swipe-one g amount clock t j r q u v k l f h = by (decLe 37 (length t))
+swipe-one g amount clock t j r q u v k l f h = by (decLe (room (g .track)) (length t))
   where
-    by : Dec (37 ≤ length t) → (r ≡ q) × (u ≡ v) × (k ≡ l)
+    by : Dec (room (g .track) ≤ length t) → (r ≡ q) × (u ≡ v) × (k ≡ l)
     by (yes long) =
         let e = view-one j (f .view) (h .view) (f .is long) (h .is long) in (
           swiped-one r q (f .so .answer ∙ ap (λ (m : Newest). swipeAnswer m g amount (length t) j) e ∙ sym (h .so .answer)),
@@ -61,27 +60,28 @@ swipe-one g amount clock t j r q u v k l f h = by (decLe 37 (length t))
 
 -- ---- "then it books with that record's label"
 
--- the tests that a swipe passed before the stripe's
-passed-all : (m : Newest) (g : Given) (amount room : ℕ) (j : List ℕ) (p : Payer) → swipeRule m g amount room j ≡ gives p
-    → (37 ≤ room) × (formed m ≡ true) × (amount ≡ 0 → ⊥) × (newest m ≡ 4294967295 → ⊥) × (full j ≡ false) × (cardRule g ≡ gives p)
-unfolding swipeRule
-passed-all m g amount room j p e =
-    let a = passed (leb 37 room) 1 _ p e in
-    let b = passed (formed m) 16 _ p (a .1) in
-    let c = passed (tableOk (g .site)) 14 _ p (b .1) in
-    let d = passed (tableOk (g .acquirer)) 14 _ p (c .1) in
-    let z = passed (not (eqb amount 0)) 17 _ p (d .1) in
-    let l = passed (not (eqb (newest m) 4294967295)) 19 _ p (z .1) in
-    let f = passed (not (full j)) 18 _ p (l .1) in
-    (leb-true 37 room (a .0), b .0, eqb-false amount 0 (not-true _ (z .0)), eqb-false (newest m) 4294967295 (not-true _ (l .0)), not-true _ (f .0), f .1)
+-- what a swipe passed before it booked
+pub record Passed (m : Newest) (g : Given) (amount space : ℕ) (j : List ℕ) (p : Payer) : Type 0 where
+  pub scratch : room (g .track) ≤ space
+  pub serial : ℕ
+  pub box : Open (g .site) (g .acquirer) amount j m serial
+  pub card : cardRule g ≡ gives p
+
+pub passed-all : (m : Newest) (g : Given) (amount space : ℕ) (j : List ℕ) (p : Payer) → swipeRule m g amount space j ≡ gives p → Passed m g amount space j p
+unfolding swipeRule readyRule
+passed-all m g amount space j p e =
+    let a = went-on (readyRule m g amount space j) _ p e in
+    let s = passed (leb (room (g .track)) space) 1 _ (a .0) (a .1) in
+    record { scratch = leb-true _ _ (s .0); serial = a .0; box = opened (g .site) (g .acquirer) amount j m (a .0) (s .1); card = a .2 }
 
 -- where the tests pass nothing else refuses: the payment is booked under the next serial
-pub is-booked : (m : Newest) (g : Given) (amount room : ℕ) (j : List ℕ) (p : Payer) → swipeRule m g amount room j ≡ gives p
+pub is-booked : (m : Newest) (g : Given) (amount space : ℕ) (j : List ℕ) (p : Payer) → swipeRule m g amount space j ≡ gives p
     → bookRule m j (p .pan) (p .label) amount ≡ gives (newest m + 1)
-is-booked Malformed g amount room j p e = let z : false ≡ true = passed-all Malformed g amount room j p e .1 in cc
-is-booked (Is b) g amount room j p e =
-    let t = passed-all (Is b) g amount room j p e in
-    sym (book-done j (p .pan) (p .label) amount b (card-pays g p (t .5)) (t .2) (t .3) (t .4))
+is-booked m g amount space j p e =
+    let t = passed-all m g amount space j p e in
+    let b = t .box in
+    subst⁻¹ (λ (v : Newest). bookRule v j (p .pan) (p .label) amount ≡ gives (newest v + 1)) (b .view)
+    (sym (book-done j (p .pan) (p .label) amount (t .serial) (card-pays g p (t .card)) (b .some) (b .serials) (b .slot)))
 
 -- a swipe as an answer of the journal's
 abbrev pub asBooked : Swiped → Booked
@@ -112,29 +112,39 @@ swipe-comes-to g amount clock t j r u k f = by (swipeRule (f .view) g amount (le
         refusal (x .0) (x .1) (f .so .journal ∙ rw e)
     by (gives p) e =
         let a = passed-all (f .view) g amount (length t) j p e in
-        one-booking p (a .5) (record { view = f .view; is = f .is (a .0); so = (same-said r ∙ f .so .answer ∙ rw e, f .so .journal ∙ rw e) })
+        one-booking p (a .card) (record { view = f .view; is = f .is (a .scratch); so = (same-said r ∙ f .so .answer ∙ rw e, f .so .journal ∙ rw e) })
 
 -- of the journal's bytes a swipe's decision asks only whether all slots are held
-pub same-decision : (m : Newest) (g : Given) (amount room : ℕ) (j k : List ℕ) → full j ≡ full k → swipeRule m g amount room j ≡ swipeRule m g amount room k
-unfolding swipeRule
-same-decision m g amount room j k e = rw e
+pub same-decision : (m : Newest) (g : Given) (amount space : ℕ) (j k : List ℕ) → full j ≡ full k → swipeRule m g amount space j ≡ swipeRule m g amount space k
+unfolding swipeRule readyRule boxRule
+same-decision m g amount space j k e = rw e
 
 -- ---- the scratch
 
-module _ (t : List ℕ) (h : 37 ≤ length t) where
+-- "scratch under 37 (1)", "with 76 bytes of scratch"
+pub room-two : room Two ≡ 37
+room-two = refl
+
+module _ (n : ℕ) (t : List ℕ) (h : n ≤ length t) where
+  zeros-fit : 0 + length {A = ℕ} (replicate n 0) ≤ length t
+  zeros-fit = omega (arith, length-replicate {A = ℕ} n 0)
+
   -- "After any answer but 1, the first 37 scratch bytes are zero;
-  pub scratch-zero : (i : ℕ) → i < 37 → getD (swipeScratch t) i 0 ≡ 0
+  pub scratch-zero : (i : ℕ) → i < n → getD (swipeScratch n t) i 0 ≡ 0
   unfolding swipeScratch
-  scratch-zero i l = simp (le-leb 37 (length t) h) (ap (λ (x : ℕ). getD (put t 0 (replicate 37 0)) x 0) (omega arith) ∙ put-in t (replicate 37 0) 0 h i l ∙ getD-replicate 37 i 0 0 l)
+  scratch-zero i l =
+      simp (le-leb n (length t) h)
+      (ap (λ (x : ℕ). getD (put t 0 (replicate n 0)) x 0) (omega arith)
+      ∙ put-in t (replicate n 0) 0 zeros-fit i (omega (arith, length-replicate {A = ℕ} n 0)) ∙ getD-replicate n i 0 0 l)
 
   -- no others change,
-  pub scratch-rest : (i : ℕ) → 37 ≤ i → getD (swipeScratch t) i 0 ≡ getD t i 0
+  pub scratch-rest : (i : ℕ) → n ≤ i → getD (swipeScratch n t) i 0 ≡ getD t i 0
   unfolding swipeScratch
-  scratch-rest i l = simp (le-leb 37 (length t) h) (put-after t (replicate 37 0) 0 h i l)
+  scratch-rest i l = simp (le-leb n (length t) h) (put-after t (replicate n 0) 0 zeros-fit i (omega (arith, length-replicate {A = ℕ} n 0)))
 
 -- and 1 changes none"
-pub scratch-short : (t : List ℕ) → length t < 37 → swipeScratch t ≡ t
-scratch-short t h = sym (kept-short t h)
+pub scratch-short : (n : ℕ) (t : List ℕ) → length t < n → swipeScratch n t ≡ t
+scratch-short n t h = sym (kept-short n t h)
 
 -- ---- hidden digits leave no trace
 
@@ -149,46 +159,26 @@ booking-same m j a b label amount clock f g e s =
     let same : (n : ℕ) → record32 n clock amount label a ≡ record32 n clock amount label b = λ n. record-same a b e s n clock amount label in
     simp (f .count, f .digits, f .sum, g .count, g .digits, g .sum, same)
 
-demand-same : {B : Type 0} (t : Bool) (n : ℕ) (o q : Outcome Payer) (old : B) (f : Payer → B) → after o old f ≡ after q old f → after (demand t n o) old f ≡ after (demand t n q) old f
-demand-same true n o q old f e = e
-demand-same false n o q old f e = refl
-
--- the tests before the stripe's, and what comes after them
-abbrev before : Newest → List ℕ → List ℕ → ℕ → ℕ → List ℕ → Outcome Payer → Outcome Payer
-before m site acquirer amount room j o =
-    demand (leb 37 room) 1
-    (demand (formed m) 16
-    (demand (tableOk site) 14
-    (demand (tableOk acquirer) 14
-    (demand (not (eqb amount 0)) 17
-    (demand (not (eqb (newest m) 4294967295)) 19
-    (demand (not (full j)) 18
-    o))))))
-
-before-same : (m : Newest) (s a : List ℕ) (amount room : ℕ) (j : List ℕ) (o q : Outcome Payer) (f : Payer → List ℕ) → after o j f ≡ after q j f
-    → after (before m s a amount room j o) j f ≡ after (before m s a amount room j q) j f
-before-same m s a amount room j o q f e =
-    demand-same (leb 37 room) 1 _ _ j f
-    (demand-same (formed m) 16 _ _ j f
-    (demand-same (tableOk s) 14 _ _ j f
-    (demand-same (tableOk a) 14 _ _ j f
-    (demand-same (not (eqb amount 0)) 17 _ _ j f
-    (demand-same (not (eqb (newest m) 4294967295)) 19 _ _ j f
-    (demand-same (not (full j)) 18 _ _ j f e))))))
+-- of two cards that pay alike a swipe leaves the same, whatever the box says
+alike : (o : Outcome ℕ) (j : List ℕ) (f : Payer → List ℕ) (p q : Payer) → f p ≡ f q → after (andThen o (λ _. gives p)) j f ≡ after (andThen o (λ _. gives q)) j f
+alike (gives b) j f p q e = e
+alike (refuses n) j f p q e = refl
 
 -- no byte of the PAN stays anywhere but what the record shows: of two cards that pay, with PANs of one length, the same shown digits and one
 -- label, a swipe leaves the same journal; the scratch is cleared
-pub no-trace : (m : Newest) (g h : Given) (amount room clock : ℕ) (j : List ℕ) (p q : Payer) → g .site ≡ h .site → g .acquirer ≡ h .acquirer
-    → cardRule g ≡ gives p → cardRule h ≡ gives q → length (p .pan) ≡ length (q .pan) → shown (p .pan) ≡ shown (q .pan) → p .label ≡ q .label
-    → swipeBytes m g amount room clock j ≡ swipeBytes m h amount room clock j
-unfolding swipeBytes swipeRule
-no-trace m g h amount room clock j p q s a e f l d x =
-    let book : Payer → List ℕ = λ y. bookBytes m j (y .pan) (y .label) amount clock in
-    let left : List ℕ → List ℕ → Outcome Payer → List ℕ = λ y z o. after (before m y z amount room j o) j book in
-    let same : book p ≡ book q =
-    ap (λ (y : ℕ). bookBytes m j (p .pan) y amount clock) x ∙ booking-same m j (p .pan) (q .pan) (q .label) amount clock (card-pays g p e) (card-pays h q f) l d in
-    ap (left (g .site) (g .acquirer)) e
-    ∙ before-same m (g .site) (g .acquirer) amount room j (gives p) (gives q) book same
-    ∙ ap (λ (y : List ℕ). left y (g .acquirer) (gives q)) s
-    ∙ ap (λ (y : List ℕ). left (h .site) y (gives q)) a
-    ∙ sym (ap (left (h .site) (h .acquirer)) f)
+module _ (k : Track) (site acquirer : List ℕ) (m : Newest) (amount space clock : ℕ) (j : List ℕ) (s t : List ℕ) (n o : ℕ) (p q : Payer) where
+  abbrev one : Given
+  one = given k s n site acquirer
+
+  abbrev other : Given
+  other = given k t o site acquirer
+
+  pub no-trace : cardRule one ≡ gives p → cardRule other ≡ gives q → length (p .pan) ≡ length (q .pan) → shown (p .pan) ≡ shown (q .pan) → p .label ≡ q .label
+      → swipeBytes m one amount space clock j ≡ swipeBytes m other amount space clock j
+  unfolding swipeBytes swipeRule readyRule
+  no-trace e f l d x =
+      let book : Payer → List ℕ = λ y. bookBytes m j (y .pan) (y .label) amount clock in
+      let left : Outcome Payer → List ℕ = λ c. after (andThen (readyRule m one amount space j) (λ _. c)) j book in
+      let same : book p ≡ book q =
+      ap (λ (y : ℕ). bookBytes m j (p .pan) y amount clock) x ∙ booking-same m j (p .pan) (q .pan) (q .label) amount clock (card-pays one p e) (card-pays other q f) l d in
+      ap left e ∙ alike (readyRule m one amount space j) j book p q same ∙ sym (ap left f)

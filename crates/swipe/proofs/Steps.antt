@@ -1,98 +1,140 @@
 -- The swipe's tests in their order, and the booking at their end. Assumes nothing.
 use Prim.Native.Nat.{ℕ, _+_, _≤_, _<_}
-use mathlib.Core.Path.{_≡_, ap, _∙_}
-use mathlib.Core.Bool.{true, false, _&&_}
+use mathlib.Core.Path.{_≡_, refl, sym, ap, _∙_}
+use mathlib.Core.Bool.{true, false, not, _&&_}
 use mathlib.Core.List.{List, _++_}
-use borrow.Author.Tests.{le-leb, lt-leb, eq-eqb, ne-eqb}
-use lib.ListN.{length, drop, replicate}
+use native.Mathlib.Omega.{arith}
+use borrow.Author.Tests.{le-leb, lt-leb, eq-eqb, ne-eqb, eqb-false, not-true}
+use lib.Dec.{eqb}
+use lib.ListN.{length, drop, replicate, length-replicate}
 use Rattle.text.specs.Numbers.{put}
 use Rattle.text.proofs.Tests.{both-true}
 use Rattle.reasons.specs.Reasons.{gives, refuses, numberOf}
 use Rattle.reasons.specs.declared.Reason.{Reason}
+use Rattle.reasons.proofs.Laws.{passed}
 use Rattle.ranges.specs.Ranges.{tableOk}
 use Rattle.ranges.proofs.Steps.{both-demanded}
 use Rattle.slots.specs.Record.{record32}
 use Rattle.slots.specs.Journal.{slotsOf, place}
+use Rattle.slots.specs.Views.{formed, newest}
 use Rattle.slots.specs.declared.Newest.{Newest}
 use Rattle.slots.specs.declared.Newest.the-variants.{Malformed, Is}
 use Rattle.journal.specs.Rules.{full}
 use Rattle.journal.proofs.Rule.{book-done, book-wrote}
-use Rattle.swipe.specs.Swipe.{Given, Payer, cardRule, swipeRule, swipeAnswer, swipeBytes, swipeScratch, Charges}
+use Rattle.swipe.specs.Swipe.{room, Given, Payer, cardRule, boxRule, readyRule, swipeRule, swipeAnswer, swipeBytes, swipeScratch, Charges}
 use Rattle.swipe.specs.declared.Swiped.the-variants.{Serial, Refused}
 use Rattle.swipe.proofs.Cards.{card-pays}
 
--- a refused swipe answers its number and leaves the journal
-pub refused : (m : Newest) (g : Given) (amount clock room : ℕ) (j : List ℕ) (r : Reason) → swipeRule m g amount room j ≡ refuses (numberOf r)
-    → Charges m g amount clock room j (Refused r) j
-unfolding swipeAnswer swipeBytes
-refused m g amount clock room j r e = record { answer = rw e; journal = rw e }
+-- ---- the box's tests, in their order
 
--- the tests before the stripe's, in their order
-pub short-scratch : (m : Newest) (g : Given) (amount room : ℕ) (j : List ℕ) → room < 37 → swipeRule m g amount room j ≡ refuses 1
-unfolding swipeRule
-short-scratch m g amount room j h = simp (lt-leb 37 room h)
-
-module _ (g : Given) (amount room : ℕ) (j : List ℕ) (h : 37 ≤ room) where
-  pub bad-journal : swipeRule Malformed g amount room j ≡ refuses 16
-  unfolding swipeRule
-  bad-journal = simp (le-leb 37 room h)
+module _ (site acquirer : List ℕ) (amount : ℕ) (j : List ℕ) where
+  pub bad-journal : refuses 16 ≡ boxRule Malformed site acquirer amount j
+  unfolding boxRule
+  bad-journal = refl
 
   module _ (b : ℕ) where
-    pub bad-tables : (tableOk (g .site) && tableOk (g .acquirer)) ≡ false → swipeRule (Is b) g amount room j ≡ refuses 14
-    unfolding swipeRule
-    bad-tables t = simp (le-leb 37 room h) (both-demanded (tableOk (g .site)) (tableOk (g .acquirer)) 14 _ t)
+    pub bad-tables : (tableOk site && tableOk acquirer) ≡ false → refuses 14 ≡ boxRule (Is b) site acquirer amount j
+    unfolding boxRule
+    bad-tables t = sym (both-demanded (tableOk site) (tableOk acquirer) 14 _ t)
 
-    module _ (t : (tableOk (g .site) && tableOk (g .acquirer)) ≡ true) where
-      pub zero-amount : amount ≡ 0 → swipeRule (Is b) g amount room j ≡ refuses 17
-      unfolding swipeRule
-      zero-amount z = let e = both-true (tableOk (g .site)) (tableOk (g .acquirer)) t in simp (le-leb 37 room h, e .0, e .1, eq-eqb amount 0 z)
+    module _ (t : (tableOk site && tableOk acquirer) ≡ true) where
+      pub zero-amount : amount ≡ 0 → refuses 17 ≡ boxRule (Is b) site acquirer amount j
+      unfolding boxRule
+      zero-amount z = let e = both-true (tableOk site) (tableOk acquirer) t in simp (e .0, e .1, eq-eqb amount 0 z)
 
       module _ (z : amount ≡ 0 → ⊥) where
-        pub last-serial : b ≡ 4294967295 → swipeRule (Is b) g amount room j ≡ refuses 19
-        unfolding swipeRule
-        last-serial l =
-            let e = both-true (tableOk (g .site)) (tableOk (g .acquirer)) t in
-            simp (le-leb 37 room h, e .0, e .1, ne-eqb amount 0 z, eq-eqb b 4294967295 l)
+        pub last-serial : b ≡ 4294967295 → refuses 19 ≡ boxRule (Is b) site acquirer amount j
+        unfolding boxRule
+        last-serial l = let e = both-true (tableOk site) (tableOk acquirer) t in simp (e .0, e .1, ne-eqb amount 0 z, eq-eqb b 4294967295 l)
 
         module _ (l : b ≡ 4294967295 → ⊥) where
-          pub journal-full : full j ≡ true → swipeRule (Is b) g amount room j ≡ refuses 18
-          unfolding swipeRule
+          pub journal-full : full j ≡ true → refuses 18 ≡ boxRule (Is b) site acquirer amount j
+          unfolding boxRule
           journal-full f =
-              let e = both-true (tableOk (g .site)) (tableOk (g .acquirer)) t in
-              simp (le-leb 37 room h, e .0, e .1, ne-eqb amount 0 z, ne-eqb b 4294967295 l, f)
+              let e = both-true (tableOk site) (tableOk acquirer) t in
+              simp (e .0, e .1, ne-eqb amount 0 z, ne-eqb b 4294967295 l, f)
 
-          pub card-next : full j ≡ false → swipeRule (Is b) g amount room j ≡ cardRule g
-          unfolding swipeRule
-          card-next f =
-              let e = both-true (tableOk (g .site)) (tableOk (g .acquirer)) t in
-              simp (le-leb 37 room h, e .0, e .1, ne-eqb amount 0 z, ne-eqb b 4294967295 l, f)
+          pub all-passed : full j ≡ false → gives b ≡ boxRule (Is b) site acquirer amount j
+          unfolding boxRule
+          all-passed f =
+              let e = both-true (tableOk site) (tableOk acquirer) t in
+              simp (e .0, e .1, ne-eqb amount 0 z, ne-eqb b 4294967295 l, f)
 
--- the tests passed that come before the stripe's
-pub record Open (g : Given) (amount room b : ℕ) (j : List ℕ) : Type 0 where
-  pub scratch : 37 ≤ room
-  pub tables : (tableOk (g .site) && tableOk (g .acquirer)) ≡ true
-  pub some : amount ≡ 0 → ⊥
-  pub serials : b ≡ 4294967295 → ⊥
-  pub slot : full j ≡ false
+  -- the tests that a box passed whose newest serial is b
+  pub record Open (m : Newest) (b : ℕ) : Type 0 where
+    pub view : m ≡ Is b
+    pub site-right : tableOk site ≡ true
+    pub acquirer-right : tableOk acquirer ≡ true
+    pub some : amount ≡ 0 → ⊥
+    pub serials : b ≡ 4294967295 → ⊥
+    pub slot : full j ≡ false
 
-pub goes-on : (g : Given) (amount room b : ℕ) (j : List ℕ) → Open g amount room b j → swipeRule (Is b) g amount room j ≡ cardRule g
-goes-on g amount room b j o = card-next g amount room j (o .scratch) b (o .tables) (o .some) (o .serials) (o .slot)
+  formed-is : (m : Newest) (b : ℕ) → formed m ≡ true → newest m ≡ b → m ≡ Is b
+  formed-is Malformed b f e = let z : _≡_ {A = ℕ} 0 1 = cc in absurd (omega arith)
+  formed-is (Is c) b f e = ap Is e
+
+  pub opened : (m : Newest) (b : ℕ) → boxRule m site acquirer amount j ≡ gives b → Open m b
+  unfolding boxRule
+  opened m b e =
+      let w = passed (formed m) 16 _ b e in
+      let s = passed (tableOk site) 14 _ b (w .1) in
+      let a = passed (tableOk acquirer) 14 _ b (s .1) in
+      let z = passed (not (eqb amount 0)) 17 _ b (a .1) in
+      let l = passed (not (eqb (newest m) 4294967295)) 19 _ b (z .1) in
+      let f = passed (not (full j)) 18 _ b (l .1) in
+      let n : newest m ≡ b = cc (f .1) in
+      record {
+        view = formed-is m b (w .0) n;
+        site-right = s .0;
+        acquirer-right = a .0;
+        some = eqb-false amount 0 (not-true _ (z .0));
+        serials = λ h. eqb-false (newest m) 4294967295 (not-true _ (l .0)) (n ∙ h);
+        slot = not-true _ (f .0);
+      }
+
+-- ---- the swipe's
+
+-- a refused swipe answers its number and leaves the journal
+pub refused : (m : Newest) (g : Given) (amount clock space : ℕ) (j : List ℕ) (r : Reason) → swipeRule m g amount space j ≡ refuses (numberOf r)
+    → Charges m g amount clock space j (Refused r) j
+unfolding swipeAnswer swipeBytes
+refused m g amount clock space j r e = record { answer = rw e; journal = rw e }
+
+module _ (m : Newest) (g : Given) (amount space : ℕ) (j : List ℕ) where
+  pub short-scratch : space < room (g .track) → swipeRule m g amount space j ≡ refuses 1
+  unfolding swipeRule readyRule
+  short-scratch h = simp (lt-leb (room (g .track)) space h)
+
+  module _ (h : room (g .track) ≤ space) where
+    pub box-refused : (n : ℕ) → refuses n ≡ boxRule m (g .site) (g .acquirer) amount j → swipeRule m g amount space j ≡ refuses n
+    unfolding swipeRule readyRule
+    box-refused n e = rw (le-leb (room (g .track)) space h, ← e)
+
+    pub card-next : (b : ℕ) → gives b ≡ boxRule m (g .site) (g .acquirer) amount j → swipeRule m g amount space j ≡ cardRule g
+    unfolding swipeRule readyRule
+    card-next b e = rw (le-leb (room (g .track)) space h, ← e)
 
 -- a card that pays is booked: x is the answered serial and k the journal's bytes
-pub booked : (g : Given) (amount clock room b : ℕ) (j : List ℕ) (p : Payer) (x : ℕ) (k : List ℕ) → Open g amount room b j → cardRule g ≡ gives p
-    → x ≡ b + 1 → k ≡ put j (place (slotsOf j) (b + 1)) (record32 (b + 1) clock amount (p .label) (p .pan)) → Charges (Is b) g amount clock room j (Serial x) k
+pub booked : (g : Given) (amount clock space b : ℕ) (j : List ℕ) (p : Payer) (x : ℕ) (k : List ℕ) → room (g .track) ≤ space
+    → gives b ≡ boxRule (Is b) (g .site) (g .acquirer) amount j → cardRule g ≡ gives p
+    → x ≡ b + 1 → k ≡ put j (place (slotsOf j) (b + 1)) (record32 (b + 1) clock amount (p .label) (p .pan)) → Charges (Is b) g amount clock space j (Serial x) k
 unfolding swipeAnswer swipeBytes
-booked g amount clock room b j p x k o e s f =
-    let pays = goes-on g amount room b j o ∙ e in
+booked g amount clock space b j p x k h r e s f =
+    let o = opened (g .site) (g .acquirer) amount j (Is b) b (sym r) in
+    let pays = card-next (Is b) g amount space j h b r ∙ e in
     let d = book-done j (p .pan) (p .label) amount b (card-pays g p e) (o .some) (o .serials) (o .slot) in
     let w = book-wrote (Is b) j (p .pan) (p .label) amount clock (b + 1) x k s d f in
     record { answer = w .0 ∙ rw pays; journal = w .1 ∙ rw pays }
 
 -- the scratch: kept where it is short, else cleared, whatever the reading left in its front
-pub kept-short : (t : List ℕ) → length t < 37 → t ≡ swipeScratch t
+pub kept-short : (n : ℕ) (t : List ℕ) → length t < n → t ≡ swipeScratch n t
 unfolding swipeScratch
-kept-short t h = simp (lt-leb 37 (length t) h)
+kept-short n t h = simp (lt-leb n (length t) h)
 
-pub cleared : (t s u : List ℕ) → 37 ≤ length t → drop 37 s ≡ drop 37 t → u ≡ put s 0 (replicate 37 0) → u ≡ swipeScratch t
+pub cleared : (n m : ℕ) (t s u : List ℕ) → n ≡ m → n ≤ length t → drop m s ≡ drop m t → u ≡ put s 0 (replicate n 0) → u ≡ swipeScratch m t
 unfolding swipeScratch put
-cleared t s u h e f = f ∙ ap (λ (l : List ℕ). replicate 37 0 ++ l) e ∙ simp (le-leb 37 (length t) h)
+cleared n m t s u is h e f =
+    let z : 0 + length {A = ℕ} (replicate m 0) ≡ m = omega (arith, length-replicate {A = ℕ} m 0) in
+    let rest : List ℕ → ℕ → List ℕ = λ l x. replicate m 0 ++ drop x l in
+    f ∙ ap (λ (x : ℕ). put s 0 (replicate x 0)) is ∙ ap (rest s) z ∙ ap (λ (l : List ℕ). replicate m 0 ++ l) e ∙ sym (ap (rest t) z)
+    ∙ simp (le-leb m (length t) (omega arith))

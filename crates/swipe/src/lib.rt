@@ -9,12 +9,148 @@ ghost use mathlib.Core.Path.{_≡_};
 ghost use mathlib.Core.Bool.{true};
 ghost use Prim.Native.Nat.{_≤_};
 ghost use lib.ListN.{length, drop, replicate};
-ghost use Rattle.text.specs.Bytes.{allDigits};
 ghost use Rattle.text.specs.Numbers.{put};
-ghost use Rattle.pan.specs.Pan.{panLength};
 ghost use Rattle.ranges.specs.Ranges.{tableOk};
+ghost use Rattle.bits.specs.Reading.{readRule, readBytes, said, counted};
 ghost use Rattle.slots.specs.Views.{Seen};
-ghost use Rattle.swipe.specs.Swipe.{given, payerRule, charsRule, cardRule, saidCard, panSize, Charges, Swipes};
+ghost use Rattle.swipe.specs.Swipe.{format, placeRule, room, given, payerRule, partOf, charsRule, cardRule, boxRule, saidBookable, saidSpot, saidCard, panEnd, PanAt, Charges, Swipes};
+ghost use Rattle.swipe.specs.declared.Track.the-variants.{Two};
+
+// ---- the tracks that a swipe reads, and what differs between them
+
+pub enum Track {
+    Two,
+}
+
+// The scratch that a track's characters need.
+fn room_of(track: Track) -> usize
+    ensures { λ r. ⌜ r ≡ room track ⌝ }
+{
+    match track {
+        Track::Two => 37,
+    }
+}
+
+// The reading.
+fn read(track: Track, stream: &[u8], bits: u64, out: &mut [u8]) -> Read
+    ensures { λ r. ⌜ (said r ≡ counted (readRule (format track) (now (stream .entry)) bits (length (now (out .entry)))))
+        × (now (out .exit) ≡ readBytes (format track) (now (stream .entry)) bits (now (out .entry))) ⌝ }
+{
+    match track {
+        Track::Two => track2::read(stream, bits, out),
+    }
+}
+
+// Where the PAN stands in the characters, and its length.
+pub enum Spot {
+    Stands(usize, usize),
+    Refused(Reason),
+}
+
+// The layout of the characters between the sentinels.
+fn pan_spot(track: Track, chars: &[u8]) -> Spot
+    ensures { λ r. ⌜ saidSpot r ≡ placeRule track (now (chars .entry)) ⌝ }
+{
+    match track {
+        Track::Two => match layout::divide(chars) {
+            Division::Refused(r) => Spot::Refused(r),
+            Division::Fields {
+                pan: n,
+                expiry: _,
+                service: _,
+                rest: _,
+            } => Spot::Stands(0, n),
+        },
+    }
+}
+
+// ---- the card
+
+// A card that pays: where its PAN stands in the scratch, the PAN's length, and the label of its range.
+pub enum Card {
+    Pays(usize, usize, u16),
+    Refused(Reason),
+}
+
+// Luhn and the look-up, of the n digits from `at`.
+fn card_of_pan(chars: &[u8], at: usize, n: usize, site: &[u8], acquirer: &[u8]) -> Card
+    requires { ⌜ (tableOk (now site) ≡ true) × (tableOk (now acquirer) ≡ true) × PanAt (now chars) at n ⌝ }
+    ensures { λ r. ⌜ (saidCard r (now (chars .entry)) ≡ payerRule (now (site .entry)) (now (acquirer .entry)) (partOf (now (chars .entry)) at n)) × (panEnd r ≤ length (now (chars .entry))) ⌝ }
+{
+    let end = at + n;
+    let pan = &chars[at..end];
+    match luhn::test(pan) {
+        Tested::Refused(r) => Card::Refused(r),
+        Tested::Passes => match ranges::inner::label_tested(site, acquirer, pan) {
+            Labelled::Refused(r) => Card::Refused(r),
+            Labelled::Label(l) => Card::Pays(at, n, l),
+        },
+    }
+}
+
+// The layout of the characters, then their PAN.
+fn card_of_chars(track: Track, chars: &[u8], site: &[u8], acquirer: &[u8]) -> Card
+    requires { ⌜ (tableOk (now site) ≡ true) × (tableOk (now acquirer) ≡ true) ⌝ }
+    ensures { λ r. ⌜ (saidCard r (now (chars .entry)) ≡ charsRule track (now (site .entry)) (now (acquirer .entry)) (now (chars .entry))) × (panEnd r ≤ length (now (chars .entry))) ⌝ }
+{
+    match pan_spot(track, chars) {
+        Spot::Refused(r) => Card::Refused(r),
+        Spot::Stands(at, n) => card_of_pan(chars, at, n, site, acquirer),
+    }
+}
+
+// The reading, into the front of the scratch, then its characters.
+fn card_of_stripe(
+    track: Track,
+    stream: &[u8],
+    bits: u64,
+    site: &[u8],
+    acquirer: &[u8],
+    scratch: &mut [u8],
+) -> Card
+    requires { ⌜ (room track ≤ length (now scratch)) × (tableOk (now site) ≡ true) × (tableOk (now acquirer) ≡ true) ⌝ }
+    ensures { λ r. ⌜ (saidCard r (now (scratch .exit)) ≡ cardRule (given track (now (stream .entry)) bits (now (site .entry)) (now (acquirer .entry))))
+        × (panEnd r ≤ length (now (scratch .exit))) × (drop (room track) (now (scratch .exit)) ≡ drop (room track) (now (scratch .entry))) ⌝ }
+{
+    match read(track, stream, bits, scratch) {
+        Read::Refused(r) => Card::Refused(r),
+        Read::Forward(n) => card_of_chars(track, &scratch[..n], site, acquirer),
+        Read::Reversed(n) => card_of_chars(track, &scratch[..n], site, acquirer),
+    }
+}
+
+// ---- the box
+
+// The newest serial of a journal that a payment can be booked in.
+pub enum Bookable {
+    After(u32),
+    Refused(Reason),
+}
+
+// The journal, the tables, the amount, the serials, and a slot that is not held.
+fn ready(site: &[u8], acquirer: &[u8], amount: u32, journal: &[u8]) -> Bookable
+    ensures { λ r. ⌜ Seen (now (journal .entry)) (λ m. saidBookable r ≡ boxRule m (now (site .entry)) (now (acquirer .entry)) amount (now (journal .entry))) ⌝ }
+{
+    match slots::newest_of(journal) {
+        Newest::Malformed => Bookable::Refused(Reason::BadJournal),
+        Newest::Is(b) => {
+            let tables = ranges::inner::tables_ok(site, acquirer);
+            if !tables {
+                return Bookable::Refused(Reason::BadTable);
+            }
+            if amount == 0 {
+                return Bookable::Refused(Reason::ZeroAmount);
+            }
+            if b == 4294967295 {
+                return Bookable::Refused(Reason::SerialsUsedUp);
+            }
+            if journal::inner::is_full(journal, b) {
+                return Bookable::Refused(Reason::JournalFull);
+            }
+            Bookable::After(b)
+        }
+    }
+}
 
 // The serial that the payment was booked with.
 pub enum Swiped {
@@ -22,63 +158,9 @@ pub enum Swiped {
     Refused(Reason),
 }
 
-// A card that pays: the length of its PAN, which stands in front of the scratch, and the label of its range.
-pub enum Card {
-    Pays(usize, u16),
-    Refused(Reason),
-}
-
-// Luhn and the look-up.
-fn card_of_pan(pan: &[u8], site: &[u8], acquirer: &[u8]) -> Card
-    requires { ⌜ (tableOk (now site) ≡ true) × (tableOk (now acquirer) ≡ true) × (panLength (length (now pan)) ≡ true) × (allDigits (now pan) ≡ true) ⌝ }
-    ensures { λ r. ⌜ (saidCard r (now (pan .entry)) ≡ payerRule (now (site .entry)) (now (acquirer .entry)) (now (pan .entry))) × (panSize r ≤ length (now (pan .entry))) ⌝ }
-{
-    match luhn::test(pan) {
-        Tested::Refused(r) => Card::Refused(r),
-        Tested::Passes => match ranges::inner::label_tested(site, acquirer, pan) {
-            Labelled::Refused(r) => Card::Refused(r),
-            Labelled::Label(l) => Card::Pays(pan.len(), l),
-        },
-    }
-}
-
-// The layout of the characters between the sentinels, then their PAN.
-fn card_of_chars(chars: &[u8], site: &[u8], acquirer: &[u8]) -> Card
-    requires { ⌜ (tableOk (now site) ≡ true) × (tableOk (now acquirer) ≡ true) ⌝ }
-    ensures { λ r. ⌜ (saidCard r (now (chars .entry)) ≡ charsRule (now (site .entry)) (now (acquirer .entry)) (now (chars .entry))) × (panSize r ≤ length (now (chars .entry))) ⌝ }
-{
-    match layout::divide(chars) {
-        Division::Refused(r) => Card::Refused(r),
-        Division::Fields {
-            pan: n,
-            expiry: _,
-            service: _,
-            rest: _,
-        } => card_of_pan(&chars[..n], site, acquirer),
-    }
-}
-
-// The reading, into the front of the scratch, then its characters.
-fn card_of_stripe(
-    stream: &[u8],
-    bits: u64,
-    site: &[u8],
-    acquirer: &[u8],
-    scratch: &mut [u8],
-) -> Card
-    requires { ⌜ (37 ≤ length (now scratch)) × (tableOk (now site) ≡ true) × (tableOk (now acquirer) ≡ true) ⌝ }
-    ensures { λ r. ⌜ (saidCard r (now (scratch .exit)) ≡ cardRule (given (now (stream .entry)) bits (now (site .entry)) (now (acquirer .entry))))
-        × (panSize r ≤ length (now (scratch .exit))) × (drop 37 (now (scratch .exit)) ≡ drop 37 (now (scratch .entry))) ⌝ }
-{
-    match track2::read(stream, bits, scratch) {
-        Read::Refused(r) => Card::Refused(r),
-        Read::Forward(n) => card_of_chars(&scratch[..n], site, acquirer),
-        Read::Reversed(n) => card_of_chars(&scratch[..n], site, acquirer),
-    }
-}
-
 // A swipe between the scratch's test, which comes before, and its clearing, which comes after.
 fn book_card(
+    track: Track,
     stream: &[u8],
     bits: u64,
     site: &[u8],
@@ -88,48 +170,69 @@ fn book_card(
     scratch: &mut [u8],
     journal: &mut [u8],
 ) -> Swiped
-    requires { ⌜ 37 ≤ length (now scratch) ⌝ }
-    ensures { λ r. ⌜ Seen (now (journal .entry)) (λ m. Charges m (given (now (stream .entry)) bits (now (site .entry)) (now (acquirer .entry))) amount clock (length (now (scratch .entry))) (now (journal .entry)) r (now (journal .exit)))
-        × (drop 37 (now (scratch .exit)) ≡ drop 37 (now (scratch .entry))) ⌝ }
+    requires { ⌜ room track ≤ length (now scratch) ⌝ }
+    ensures { λ r. ⌜ Seen (now (journal .entry)) (λ m. Charges m (given track (now (stream .entry)) bits (now (site .entry)) (now (acquirer .entry))) amount clock (length (now (scratch .entry))) (now (journal .entry)) r (now (journal .exit)))
+        × (drop (room track) (now (scratch .exit)) ≡ drop (room track) (now (scratch .entry))) ⌝ }
 {
-    match slots::newest_of(journal) {
-        Newest::Malformed => Swiped::Refused(Reason::BadJournal),
-        Newest::Is(b) => {
-            let tables = ranges::inner::tables_ok(site, acquirer);
-            if !tables {
-                return Swiped::Refused(Reason::BadTable);
-            }
-            if amount == 0 {
-                return Swiped::Refused(Reason::ZeroAmount);
-            }
-            if b == 4294967295 {
-                return Swiped::Refused(Reason::SerialsUsedUp);
-            }
-            if journal::inner::is_full(journal, b) {
-                return Swiped::Refused(Reason::JournalFull);
-            }
-            match card_of_stripe(stream, bits, site, acquirer, scratch) {
-                Card::Refused(r) => Swiped::Refused(r),
-                Card::Pays(n, label) => Swiped::Serial(journal::inner::write_at(
+    match ready(site, acquirer, amount, journal) {
+        Bookable::Refused(r) => Swiped::Refused(r),
+        Bookable::After(b) => match card_of_stripe(track, stream, bits, site, acquirer, scratch) {
+            Card::Refused(r) => Swiped::Refused(r),
+            Card::Pays(at, n, label) => {
+                let end = at + n;
+                Swiped::Serial(journal::inner::write_at(
                     journal,
                     b,
-                    &scratch[..n],
+                    &scratch[at..end],
                     label,
                     amount,
                     clock,
-                )),
+                ))
             }
-        }
+        },
     }
 }
 
-// Zeros over the first 37 bytes.
-fn clear(scratch: &mut [u8])
-    requires { ⌜ 37 ≤ length (now scratch) ⌝ }
-    ensures { λ _. ⌜ now (scratch .exit) ≡ put (now (scratch .entry)) 0 (replicate 37 0) ⌝ }
+// Zeros over the first n bytes.
+fn clear(scratch: &mut [u8], n: usize)
+    requires { ⌜ (n ≤ length (now scratch)) × (n ≤ 76) ⌝ }
+    ensures { λ _. ⌜ now (scratch .exit) ≡ put (now (scratch .entry)) 0 (replicate n 0) ⌝ }
 {
-    let zeros = [0u8; 37];
-    text::put_at(scratch, 0, &zeros);
+    let zeros = [0u8; 76];
+    text::put_at(scratch, 0, &zeros[..n]);
+}
+
+// A swipe of a card on this track.
+fn swipe_on(
+    track: Track,
+    stream: &[u8],
+    bits: u64,
+    site: &[u8],
+    acquirer: &[u8],
+    amount: u32,
+    clock: u32,
+    scratch: &mut [u8],
+    journal: &mut [u8],
+) -> Swiped
+    ensures { λ r. ⌜ Swipes (given track (now (stream .entry)) bits (now (site .entry)) (now (acquirer .entry))) amount clock (now (scratch .entry)) (now (journal .entry)) r (now (scratch .exit)) (now (journal .exit)) ⌝ }
+{
+    let n = room_of(track);
+    if scratch.len() < n {
+        return Swiped::Refused(Reason::ShortOutput);
+    }
+    let r = book_card(
+        track,
+        stream,
+        bits,
+        site,
+        acquirer,
+        amount,
+        clock,
+        scratch,
+        journal,
+    );
+    clear(scratch, n);
+    r
 }
 
 // A swipe: it refuses, or it books one payment and answers its serial. The scratch holds the card's characters in between.
@@ -143,12 +246,10 @@ pub fn swipe(
     scratch: &mut [u8],
     journal: &mut [u8],
 ) -> Swiped
-    ensures { λ r. ⌜ Swipes (given (now (stream .entry)) bits (now (site .entry)) (now (acquirer .entry))) amount clock (now (scratch .entry)) (now (journal .entry)) r (now (scratch .exit)) (now (journal .exit)) ⌝ }
+    ensures { λ r. ⌜ Swipes (given Two (now (stream .entry)) bits (now (site .entry)) (now (acquirer .entry))) amount clock (now (scratch .entry)) (now (journal .entry)) r (now (scratch .exit)) (now (journal .exit)) ⌝ }
 {
-    if scratch.len() < 37 {
-        return Swiped::Refused(Reason::ShortOutput);
-    }
-    let r = book_card(
+    swipe_on(
+        Track::Two,
         stream,
         bits,
         site,
@@ -157,7 +258,5 @@ pub fn swipe(
         clock,
         scratch,
         journal,
-    );
-    clear(scratch);
-    r
+    )
 }

@@ -1,15 +1,52 @@
 -- `card_of_pan` asks Luhn, then the tables. Assumes nothing.
 use Prim.Native.Nat.{ℕ}
-use mathlib.Core.Path.{sym, ap, _∙_}
+use mathlib.Core.Path.{_≡_, sym, ap, _∙_}
 use mathlib.Core.List.{List}
 use native.Mathlib.Omega.{arith}
-use lib.Seq.{take-length}
 use Rattle.reasons.specs.Reasons.{gives, said}
+use Rattle.luhn.specs.Luhn.{luhnRule}
+use Rattle.ranges.specs.Ranges.{labelRule}
 use Rattle.ranges.specs.Inner.{saidLabel}
-use Rattle.swipe.proofs.Cards.{luhn-refused, no-label, with-label}
+use lib.ListN.{length}
+use Rattle.text.specs.Bytes.{allDigits}
+use Rattle.pan.specs.Pan.{panLength}
+use Rattle.swipe.specs.Swipe.{partOf}
+use Rattle.swipe.proofs.Cards.{part-is, luhn-refused, no-label, with-label}
 use borrow.Author.Needs.{needs}
 use Rattle.swipe.proofs.card_of_pan.Statement.{statement}
 use Rattle.swipe.proofs.card_of_pan.Tie as tie
+
+abbrev start : tie.After-test → tie.Start
+start c = c .before .before .before .before .before
+
+-- the PAN that is asked about
+abbrev pan : tie.Start → List ℕ
+pan s = partOf (s .args .chars .now) (s .args .at) (s .args .n)
+
+luhn-said : (c : tie.After-test) → luhnRule (pan (start c)) ≡ said (c .test .result)
+luhn-said c = let a = start c .args in sym (c .test .ensures ∙ ap luhnRule (part-is (a .chars .now) (a .at) (a .n)))
+
+passed : (c : tie.After-enum-told) → luhnRule (pan (start (c .before .before))) ≡ gives tt
+passed c = luhn-said (c .before .before) ∙ ap said (c .enum-told .given .1)
+
+label-said : (c : tie.After-label-tested) →
+    let s = start (c .before .before .before) in
+    labelRule (s .args .site .now) (s .args .acquirer .now) (pan s) ≡ saidLabel (c .label-tested .result)
+label-said c =
+    let a = start (c .before .before .before) .args in
+    sym (c .label-tested .ensures ∙ ap (labelRule (a .site .now) (a .acquirer .now)) (part-is (a .chars .now) (a .at) (a .n)))
+
+add-end : tie.Need-add-end
+add-end c = search needs
+
+sub-pan : tie.Need-sub-pan
+sub-pan c = search needs
+
+part-pan-start : tie.Need-part-pan-start
+part-pan-start c = search needs
+
+part-pan-end : tie.Need-part-pan-end
+part-pan-end c = search needs
 
 test-requires : tie.Need-test-requires
 test-requires c κs = search needs
@@ -21,7 +58,10 @@ enum-told : tie.Need-enum-told
 enum-told c = search needs
 
 label-tested-requires : tie.Need-label-tested-requires
-label-tested-requires c κs = search needs
+label-tested-requires c κs =
+    let s = start (c .before .before) in
+    let e = sym (part-is (s .args .chars .now) (s .args .at) (s .args .n)) in
+    (s .pre .0, s .pre .1, ap (λ (p : List ℕ). panLength (length p)) (sym e) ∙ s .pre .2 .count, ap allDigits (sym e) ∙ s .pre .2 .digits)
 
 enum-known-r-2 : tie.Need-enum-known-r-2
 enum-known-r-2 c = search needs
@@ -32,30 +72,29 @@ enum-known-l c = search needs
 returns : tie.Need-returns
 returns c =
     let t = c .before .before .before in
-    let a = t .before .before .before .before in
-    (sym (luhn-refused _ _ _ (a .pre .2) (a .pre .3) _ (sym (t .test .ensures) ∙ ap said (c .before .r .given .1))), omega arith)
+    let p = start t .pre .2 in
+    (sym (luhn-refused _ _ _ (p .count) (p .digits) _ (luhn-said t ∙ ap said (c .before .r .given .1))), omega arith)
 
 returns-2 : tie.Need-returns-2
 returns-2 c =
     let l = c .before .before .before in
-    let t = l .before .before .before in
-    let a = t .before .before .before .before in
-    (sym (no-label _ _ _ (a .pre .2) (a .pre .3) _ (sym (t .test .ensures) ∙ ap said (l .before .enum-told .given .1)) (sym (l .label-tested .ensures) ∙ ap saidLabel (c .before .r2 .given .1))), omega arith)
+    let p = start (l .before .before .before) .pre .2 in
+    (sym (no-label _ _ _ (p .count) (p .digits) _ (passed (l .before)) (label-said l ∙ ap saidLabel (c .before .r2 .given .1))), omega arith)
 
 returns-3 : tie.Need-returns-3
 returns-3 c =
     let l = c .before .before .before in
-    let t = l .before .before .before in
-    let a = t .before .before .before .before in (
-      ap (λ (s : List ℕ). gives (record { pan = s; label = c .before .l .given .0 .0 })) (take-length (a .args .pan .now))
-          ∙ sym (with-label _ _ _ (a .pre .2) (a .pre .3) _ (sym (t .test .ensures) ∙ ap said (l .before .enum-told .given .1)) (sym (l .label-tested .ensures) ∙ ap saidLabel (c .before .l .given .1))),
-      omega arith,
-    )
+    let p = start (l .before .before .before) .pre .2 in
+    (sym (with-label _ _ _ (p .count) (p .digits) _ (passed (l .before)) (label-said l ∙ ap saidLabel (c .before .l .given .1))), p .fits)
 
 pub card-of-pan-spec : {M : Type 1} → statement M
 card-of-pan-spec =
     tie.close
     (tie.spec
+    add-end
+    sub-pan
+    part-pan-start
+    part-pan-end
     test-requires
     enum-known-r
     enum-told

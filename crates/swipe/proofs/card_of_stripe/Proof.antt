@@ -7,29 +7,33 @@ use native.Mathlib.Omega.{arith}
 use lib.Seq.{length-take-le}
 use Rattle.reasons.specs.Reasons.{gives}
 use Rattle.bits.specs.Reading.{said}
-use Rattle.swipe.specs.Swipe.{Given}
+use Rattle.swipe.specs.Swipe.{Given, given}
 use Rattle.swipe.proofs.Cards.{unread, ReadSo, read-so, read-card}
 use borrow.Author.Needs.{needs}
 use Rattle.swipe.proofs.card_of_stripe.Statement.{statement}
 use Rattle.swipe.proofs.card_of_stripe.Tie as tie
 
-abbrev given : tie.After-read → Given
-given c =
-    let a = c .before .before .before .before .before .before .args in
-    record { stream = a .stream .now; bits = a .bits; site = a .site .now; acquirer = a .acquirer .now }
+abbrev start : tie.After-read → tie.Start
+start c = c .before .before .before .before .before .before
 
+abbrev card : tie.After-read → Given
+card c = let a = start c .args in given (a .track) (a .stream .now) (a .bits) (a .site .now) (a .acquirer .now)
+
+-- the scratch before and after the reading
 abbrev scratch : tie.After-read → List ℕ
-scratch c = c .before .before .before .before .before .before .args .scratch .now
+scratch c = start c .args .scratch .now
+
+abbrev left : tie.After-read → List ℕ
+left c = c .read .last .1 .1 .1 .0
 
 -- the reading accepted n characters
-accepted : (c : tie.After-read) (w : Bool) (n : ℕ) → said (c .read .result) ≡ gives (w, n) → ReadSo (given c) (scratch c) (c .read .last .1 .1 .0) n
-accepted c w n e =
-    read-so (given c) (scratch c) (c .read .last .1 .1 .0) (c .before .before .before .before .before .before .pre .0) (c .read .ensures .1) w n (sym e ∙ c .read .ensures .0)
+accepted : (c : tie.After-read) (w : Bool) (n : ℕ) → said (c .read .result) ≡ gives (w, n) → ReadSo (card c) (scratch c) (left c) n
+accepted c w n e = read-so (card c) (scratch c) (left c) (start c .pre .0) (c .read .ensures .1) w n (sym e ∙ c .read .ensures .0)
 
-forward : (c : tie.After-known-told2) → let r = c .before .before .before .before .before in ReadSo (given r) (scratch r) (r .read .last .1 .1 .0) (c .before .n .given .0 .0)
+forward : (c : tie.After-known-told2) → let r = c .before .before .before .before .before in ReadSo (card r) (scratch r) (left r) (c .before .n .given .0 .0)
 forward c = accepted (c .before .before .before .before .before) _ _ (ap said (c .before .n .given .1))
 
-backward : (c : tie.After-known-told3) → let r = c .before .before .before .before .before in ReadSo (given r) (scratch r) (r .read .last .1 .1 .0) (c .before .n2 .given .0 .0)
+backward : (c : tie.After-known-told3) → let r = c .before .before .before .before .before in ReadSo (card r) (scratch r) (left r) (c .before .n2 .given .0 .0)
 backward c = accepted (c .before .before .before .before .before) _ _ (ap said (c .before .n2 .given .1))
 
 read-requires : tie.Need-read-requires
@@ -68,7 +72,7 @@ same-length c = search needs
 returns : tie.Need-returns
 returns c =
     let r = c .before .before .before .before .before in
-    let u = unread (given r) (scratch r) (r .read .last .1 .1 .0) (r .before .before .before .before .before .before .pre .0) (r .read .ensures .1) _ (sym (ap said (c .before .r .given .1)) ∙ r .read .ensures .0) in
+    let u = unread (card r) (scratch r) (left r) (start r .pre .0) (r .read .ensures .1) _ (sym (ap said (c .before .r .given .1)) ∙ r .read .ensures .0) in
     (u .0, omega arith, u .1)
 
 same-length-2 : tie.Need-same-length-2

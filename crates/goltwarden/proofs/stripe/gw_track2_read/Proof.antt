@@ -7,8 +7,8 @@ use lib.ListN.{length}
 use Rattle.reasons.specs.Reasons.{Outcome, gives}
 use Rattle.bits.specs.Stream.{bitN}
 use Rattle.bits.specs.Reading.{Track, said, counted}
-use Rattle.track2.specs.Track2.{track2Rule}
-use Rattle.track2.proofs.Counts.{behind, refused, few}
+use Rattle.bits.proofs.Counts.{behind, refused, few}
+use Rattle.track2.specs.Track2.{track2, track2Rule}
 use Rattle.goltwarden.specs.Values.{countsOf}
 use Rattle.goltwarden.specs.Hands.{Hands}
 use Rattle.goltwarden.proofs.Handed.{gave, kept, behind-is}
@@ -40,13 +40,13 @@ enum-known-n : tie.Need-enum-known-n
 enum-known-n c = search needs
 
 cast-count : tie.Need-cast-count
-cast-count c = omega (arith, few _ _ _ _ _ (forward c))
+cast-count c = omega (arith, few track2 _ _ _ _ _ (forward c))
 
 enum-known-n-2 : tie.Need-enum-known-n-2
 enum-known-n-2 c = search needs
 
 cast-count-2 : tie.Need-cast-count-2
-cast-count-2 c = omega (arith, few _ _ _ _ _ (backward c))
+cast-count-2 c = omega (arith, few track2 _ _ _ _ _ (backward c))
 
 enum-known-why : tie.Need-enum-known-why
 enum-known-why c = search needs

@@ -1,5 +1,5 @@
--- What the reading says, in terms of what it gives. Assumes nothing.
-use Prim.Native.Nat.{ℕ, _≤_}
+-- What a reading says, in terms of what it gives. Assumes nothing.
+use Prim.Native.Nat.{ℕ, _-_, _≤_}
 use mathlib.Core.Path.{_≡_, refl, sym, ap}
 use mathlib.Core.Bool.{Bool}
 use mathlib.Core.List.{List}
@@ -7,9 +7,8 @@ use native.Mathlib.Omega.{arith}
 use lib.ListN.{length}
 use Rattle.reasons.specs.Reasons.{Outcome, gives, refuses}
 use Rattle.reasons.proofs.Laws.{gives-refuses}
-use Rattle.bits.specs.Reading.{Track, counted}
-use Rattle.track2.specs.Track2.{track2Rule}
-use Rattle.track2.proofs.Laws.{at-most-37}
+use Rattle.bits.specs.Reading.{Format, Track, readRule, counted}
+use Rattle.bits.proofs.Laws.{chars-fit}
 
 -- the track behind a direction and a count
 pub record Behind (o : Outcome Track) (d : Bool) (n : ℕ) : Type 0 where
@@ -29,7 +28,7 @@ refused (gives t) m e = gives-refuses (t .reversed, length (t .chars)) m (sym e)
 refused (refuses n) m e = let z : m ≡ n = cc in ap refuses z
 
 -- the count is small
-pub few : (s : List ℕ) (bits room : ℕ) (d : Bool) (n : ℕ) → gives (d, n) ≡ counted (track2Rule s bits room) → n ≤ 37
-few s bits room d n e =
-    let b = behind (track2Rule s bits room) d n e in
-    omega (arith, b .count, at-most-37 s bits room (b .track) (sym (b .is)))
+pub few : (f : Format) (s : List ℕ) (bits room : ℕ) (d : Bool) (n : ℕ) → gives (d, n) ≡ counted (readRule f s bits room) → n ≤ f .limit - 2
+few f s bits room d n e =
+    let b = behind (readRule f s bits room) d n e in
+    omega (arith, b .count, chars-fit f s bits room (b .track) (sym (b .is)))
