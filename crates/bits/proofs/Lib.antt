@@ -10,4 +10,3 @@ pub mod Lengths
 pub mod Laws
 pub mod Refusals
 pub mod Counts
-pub mod Seven

@@ -1,7 +1,6 @@
 // The swipe: gw_swipe.
 use swipe::Swiped;
-ghost use Rattle.swipe.specs.Swipe.{given};
-ghost use Rattle.swipe.specs.declared.Track.the-variants.{Two};
+ghost use Rattle.swipe.specs.Swipe.{given2};
 ghost use Rattle.goltwarden.specs.Calls.{Swipes};
 
 #[no_mangle]
@@ -16,7 +15,7 @@ pub extern "C" fn gw_swipe(
     journal: &mut [u8],
     serial: &mut u32,
 ) -> u32
-    ensures { λ r. ⌜ Swipes (given Two (now (stream .entry)) bits (now (site .entry)) (now (acquirer .entry))) amount clock (now (scratch .entry)) (now (journal .entry)) (now (serial .entry)) r (now (serial .exit)) (now (scratch .exit)) (now (journal .exit)) ⌝ }
+    ensures { λ r. ⌜ Swipes (given2 (now (stream .entry)) bits (now (site .entry)) (now (acquirer .entry))) amount clock (now (scratch .entry)) (now (journal .entry)) (now (serial .entry)) r (now (serial .exit)) (now (scratch .exit)) (now (journal .exit)) ⌝ }
 {
     match swipe::swipe(
         stream,

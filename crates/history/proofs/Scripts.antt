@@ -27,8 +27,7 @@ use Rattle.journal.specs.declared.Booked.the-variants as booking
 use Rattle.journal.specs.declared.Released.{Released}
 use Rattle.journal.specs.declared.Released.the-variants as releasing
 use Rattle.journal.proofs.Lists.{held-at-most}
-use Rattle.swipe.specs.Swipe.{Given, given, Payer, Swipes}
-use Rattle.swipe.specs.declared.Track.the-variants.{Two}
+use Rattle.swipe.specs.Swipe.{Given, given2, Payer, Swipes}
 use Rattle.swipe.specs.declared.Swiped.{Swiped}
 use Rattle.swipe.specs.declared.Swiped.the-variants as swiping
 use Rattle.swipe.proofs.Laws.{ComesTo, refusal, one-booking, swipe-comes-to}
@@ -219,7 +218,7 @@ module _ (s site acquirer t : List ℕ) (at : ℕ) where
   is-release e = simp (ne-eqb (kindAt s at) 1 (λ z. omega arith), eq-eqb (kindAt s at) 2 e)
 
   pub is-swipe : kindAt s at ≡ 3
-      → swipe (given Two (streamAt s at) (bitsAt s at) site acquirer) (amountAt s at) t ≡ callAt s site acquirer t at
+      → swipe (given2 (streamAt s at) (bitsAt s at) site acquirer) (amountAt s at) t ≡ callAt s site acquirer t at
   unfolding callAt
   is-swipe e = simp (ne-eqb (kindAt s at) 1 (λ z. omega arith), ne-eqb (kindAt s at) 2 (λ z. omega arith), eq-eqb (kindAt s at) 3 e)
 

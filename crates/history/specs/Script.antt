@@ -10,8 +10,7 @@ use Rattle.reasons.specs.Reasons.{Outcome, gives, refuses, demand}
 use Rattle.slots.specs.Journal.{NewestIs}
 use Rattle.slots.specs.declared.Newest.the-variants.{Is}
 use Rattle.journal.specs.Held.{heldList, sumOf}
-use Rattle.swipe.specs.Swipe.{given}
-use Rattle.swipe.specs.declared.Track.the-variants.{Two}
+use Rattle.swipe.specs.Swipe.{given2}
 use Rattle.history.specs.History.{Call, book, swipe, release, reads, aside, AnswerTo, Does, Done, Effect, booked-one, released-to, nothing, effectOf, booked, takings, freedCount, freedSum}
 use Rattle.history.specs.declared.Totals.{Totals}
 use Rattle.history.specs.declared.Replayed.{Replayed}
@@ -52,7 +51,7 @@ unfoldable pub callAt : List ℕ → List ℕ → List ℕ → List ℕ → ℕ 
 callAt s site acquirer scratch at =
     cond (eqb (kindAt s at) 1) (book (panAt s at) (labelAt s at) (amountAt s at))
     (cond (eqb (kindAt s at) 2) (release (serialAt s at))
-    (cond (eqb (kindAt s at) 3) (swipe (given Two (streamAt s at) (bitsAt s at) site acquirer) (amountAt s at) scratch)
+    (cond (eqb (kindAt s at) 3) (swipe (given2 (streamAt s at) (bitsAt s at) site acquirer) (amountAt s at) scratch)
     aside))
 
 -- "a script too long for its sums is refused by a number of its own", 99; one that is no whole number of records with 6, before that

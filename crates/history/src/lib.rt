@@ -8,8 +8,7 @@ ghost use Prim.Native.Nat.{ℕ, min, _+_, _*_, _/_, _%_, _≤_, _<_};
 ghost use lib.ListN.{getD, length};
 ghost use Rattle.slots.specs.Journal.{NewestIs};
 ghost use Rattle.slots.specs.declared.Newest.the-variants.{Is};
-ghost use Rattle.swipe.specs.Swipe.{given};
-ghost use Rattle.swipe.specs.declared.Track.the-variants.{Two};
+ghost use Rattle.swipe.specs.Swipe.{given2};
 ghost use Rattle.history.specs.History.{book, swipe, release};
 ghost use Rattle.history.specs.Script.{panAt, labelAt, amountAt, clockAt, serialAt, bitsAt, streamAt, callAt, replayRule, PlaysOne, PlaysAll, Adds, Replays, Conserves};
 
@@ -116,7 +115,7 @@ fn play_swipe(
     journal: &mut [u8],
 ) -> Totals
     requires { ⌜ at + 128 ≤ length (now script) ⌝ }
-    ensures { λ r. ⌜ PlaysOne (swipe (given Two (streamAt (now (script .entry)) at) (bitsAt (now (script .entry)) at) (now (site .entry)) (now (acquirer .entry))) (amountAt (now (script .entry)) at) (now (scratch .entry))) (clockAt (now (script .entry)) at) (now (scratch .entry)) (now (journal .entry)) r (now (scratch .exit)) (now (journal .exit)) ⌝ }
+    ensures { λ r. ⌜ PlaysOne (swipe (given2 (streamAt (now (script .entry)) at) (bitsAt (now (script .entry)) at) (now (site .entry)) (now (acquirer .entry))) (amountAt (now (script .entry)) at) (now (scratch .entry))) (clockAt (now (script .entry)) at) (now (scratch .entry)) (now (journal .entry)) r (now (scratch .exit)) (now (journal .exit)) ⌝ }
 {
     let amount = text::u32_at(script, at + 4);
     let clock = text::u32_at(script, at + 8);

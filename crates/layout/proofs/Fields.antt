@@ -1,36 +1,53 @@
 -- The fields one by one: what the functions find is what the definitions say. Assumes nothing.
-use Prim.Native.Nat.{ℕ, _+_, _-_, _*_, _≤_, _<_}
-use mathlib.Core.Path.{_≡_, sym, _∙_}
-use mathlib.Core.Bool.{Bool, true, false}
-use mathlib.Core.List.{List}
+use Prim.Native.Nat.{ℕ, suc, _+_, _-_, _*_, _≤_, _<_}
+use mathlib.Core.Path.{_≡_, refl, sym, ap, _∙_}
+use mathlib.Core.Bool.{Bool, true, false, cond, _&&_}
+use mathlib.Core.List.{List, [], _∷_}
 use native.Mathlib.Omega.{arith}
 use native.Mathlib.Numerals.{add-one}
+use lib.Dec.{eqb}
 use lib.ListN.{length, getD, take, drop, drop-of-length-le, length-drop}
 use lib.Seq.{drop-cons, take-all}
-use borrow.Author.Tests.{eq-eqb, ne-eqb}
-use Rattle.text.specs.Bytes.{within, isDigit, allDigits}
+use borrow.Author.Tests.{eq-eqb, ne-eqb, eqb-true, eqb-false}
+use Rattle.text.specs.Bytes.{within, every, allDigits}
 use Rattle.text.specs.Numbers.{decimal}
 use Rattle.text.proofs.Tests.{under, over, inside}
 use Rattle.text.proofs.Numbers.{decimal-turn, decimal-end}
 use Rattle.reasons.specs.Reasons.{gives, refuses, demand, andThen}
-use Rattle.layout.specs.Layout.{isExpiry, isService, lead, fieldRule, past, Places, restRule, serviceRule, expiryRule, layoutRule, saidDue}
+use Rattle.layout.specs.Layout.{mark, allowed, isExpiry, isService, leading, lead, fieldRule, past, Places, restRule, serviceRule, expiryRule, layoutRule, saidDue}
+use Rattle.layout.specs.declared.inner.Track.{Track}
+use Rattle.layout.specs.declared.inner.Track.the-variants.{Two}
 use Rattle.layout.specs.declared.Field.{Field}
 use Rattle.layout.specs.declared.Field.the-variants.{Absent, At}
-use Rattle.layout.specs.declared.Due.{Due}
+use Rattle.layout.specs.declared.inner.Due.{Due}
 
--- digits from the left
-module _ (s : List ℕ) (i : ℕ) where
-  pub lead-stop : i < length s → isDigit (getD s i 0) ≡ false → lead (drop i s) ≡ 0
-  unfolding lead
+-- bytes from the left that pass a test
+module _ (f : ℕ → Bool) (s : List ℕ) (i : ℕ) where
+  pub lead-stop : i < length s → f (getD s i 0) ≡ false → leading f (drop i s) ≡ 0
+  unfolding leading
   lead-stop h e = rw (drop-cons s i 0) (simp e)
 
-  pub lead-more : i < length s → isDigit (getD s i 0) ≡ true → lead (drop i s) ≡ lead (drop (i + 1) s) + 1
-  unfolding lead
+  pub lead-more : i < length s → f (getD s i 0) ≡ true → leading f (drop i s) ≡ leading f (drop (i + 1) s) + 1
+  unfolding leading
   lead-more h e = rw (drop-cons s i 0) (simp (e, add-one))
 
-  pub lead-end : length s ≤ i → lead (drop i s) ≡ 0
-  unfolding lead
+  pub lead-end : length s ≤ i → leading f (drop i s) ≡ 0
+  unfolding leading
   lead-end h = rw (drop-of-length-le s h)
+
+-- all of them
+next-eqb : (n m : ℕ) (x : Bool) → eqb n m ≡ x → eqb (suc n) (suc m) ≡ x
+next-eqb n m true e = eq-eqb (suc n) (suc m) (ap suc (eqb-true n m e))
+next-eqb n m false e = ne-eqb (suc n) (suc m) (λ z. eqb-false n m e (omega arith))
+
+lead-all : (b x : Bool) (n m : ℕ) → eqb n m ≡ x → eqb (cond b (suc n) 0) (suc m) ≡ (b && x)
+lead-all true x n m e = next-eqb n m x e
+lead-all false x n m e = ne-eqb 0 (suc m) (λ z. omega arith)
+
+pub all-lead : (f : ℕ → Bool) (s : List ℕ) → eqb (leading f s) (length s) ≡ every f s
+unfolding leading every
+all-lead f [] = refl
+all-lead f (b ∷ s) = lead-all (f b) (every f s) (leading f s) (length s) (all-lead f s)
 
 -- an expiry and a service code, test by test
 module _ (t : List ℕ) where
@@ -61,29 +78,29 @@ module _ (t : List ℕ) where
   service-digits h = rw (eq-eqb (length t) 3 h)
 
 -- what is due at a place
-module _ (test : List ℕ → Bool) (n : ℕ) (s : List ℕ) (q : ℕ) where
-  pub field-missing : getD s q 0 ≡ 61 → gives Absent ≡ fieldRule test n s q
+module _ (k : Track) (test : List ℕ → Bool) (n : ℕ) (s : List ℕ) (q : ℕ) where
+  pub field-missing : getD s q 0 ≡ mark k → gives Absent ≡ fieldRule k test n s q
   unfolding fieldRule
-  field-missing e = rw (eq-eqb (getD s q 0) 61 e)
+  field-missing e = rw (eq-eqb (getD s q 0) (mark k) e)
 
-  pub field-there : (getD s q 0 ≡ 61 → ⊥) → (b : Bool) → test (take n (drop q s)) ≡ b → demand b 6 (gives (At q)) ≡ fieldRule test n s q
+  pub field-there : (getD s q 0 ≡ mark k → ⊥) → (b : Bool) → test (take n (drop q s)) ≡ b → demand b 6 (gives (At q)) ≡ fieldRule k test n s q
   unfolding fieldRule
-  field-there e b t = rw (ne-eqb (getD s q 0) 61 e, t)
+  field-there e b t = rw (ne-eqb (getD s q 0) (mark k) e, t)
 
 -- the division, from its end back to its start
-pub rest-tested : (s : List ℕ) (d : Places) (b : Bool) → allDigits (take (length s) (drop (d .rest) s)) ≡ b → demand b 6 (gives d) ≡ restRule s d
+pub rest-tested : (k : Track) (s : List ℕ) (d : Places) (b : Bool) → every (allowed k) (take (length s) (drop (d .rest) s)) ≡ b → demand b 6 (gives d) ≡ restRule k s d
 unfolding restRule
-rest-tested s d b e = rw (← take-all (length s) (drop (d .rest) s) (rw length-drop (omega arith)), e)
+rest-tested k s d b e = rw (← take-all (length s) (drop (d .rest) s) (rw length-drop (omega arith)), e)
 
-pub service-next : (s : List ℕ) (p : ℕ) (e : Field) (q : ℕ) (v : Due) → saidDue q v ≡ fieldRule isService 3 s q
-    → andThen (saidDue q v) (λ f. restRule s (record { pan = p; expiry = e; service = f; rest = past 3 q f })) ≡ serviceRule s p e q
+pub service-next : (k : Track) (s : List ℕ) (p : ℕ) (e : Field) (q : ℕ) (v : Due) → saidDue q v ≡ fieldRule k isService 3 s q
+    → andThen (saidDue q v) (λ f. restRule k s (record { pan = p; expiry = e; service = f; rest = past 3 q f })) ≡ serviceRule k s p e q
 unfolding serviceRule
-service-next s p e q v h = rw h
+service-next k s p e q v h = rw h
 
-pub expiry-next : (s : List ℕ) (p : ℕ) (v : Due) → saidDue (p + 1) v ≡ fieldRule isExpiry 4 s (p + 1)
-    → andThen (saidDue (p + 1) v) (λ f. serviceRule s p f (past 4 (p + 1) f)) ≡ expiryRule s p
+pub expiry-next : (k : Track) (s : List ℕ) (p q : ℕ) (v : Due) → saidDue q v ≡ fieldRule k isExpiry 4 s q
+    → andThen (saidDue q v) (λ f. serviceRule k s p f (past 4 q f)) ≡ expiryRule k s p q
 unfolding expiryRule
-expiry-next s p v h = rw h
+expiry-next k s p q v h = rw h
 
 module _ (s : List ℕ) (p : ℕ) (is-lead : p ≡ lead s) where
   pub few : p < 13 → refuses 6 ≡ layoutRule s
@@ -99,6 +116,6 @@ module _ (s : List ℕ) (p : ℕ) (is-lead : p ≡ lead s) where
     unfolding layoutRule
     unmarked e = rw (← is-lead, inside 13 19 p h l, ne-eqb (getD s p 0) 61 e)
 
-    pub marked : getD s p 0 ≡ 61 → expiryRule s p ≡ layoutRule s
+    pub marked : getD s p 0 ≡ 61 → expiryRule Two s p (p + 1) ≡ layoutRule s
     unfolding layoutRule
     marked e = rw (← is-lead, inside 13 19 p h l, eq-eqb (getD s p 0) 61 e)

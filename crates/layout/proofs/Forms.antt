@@ -16,8 +16,10 @@ use Rattle.text.proofs.Every.{every-at, every-head}
 use Rattle.text.proofs.Numbers.{digit-small}
 use Rattle.reasons.specs.Reasons.{gives, demand}
 use Rattle.reasons.proofs.Laws.{passed}
-use Rattle.layout.specs.Layout.{isExpiry, isService, lead, equalsAt, fieldRule, past}
+use Rattle.layout.specs.Layout.{mark, isExpiry, isService, leading, markAt, fieldRule, past}
 use Rattle.layout.specs.Grammar.{Optional, absent, present, written, Passes, placed, fieldIn}
+use Rattle.layout.specs.declared.inner.Track.{Track}
+use Rattle.layout.specs.declared.inner.Track.the-variants.{Two, One}
 use Rattle.layout.specs.declared.Field.{Field}
 use Rattle.layout.specs.declared.Field.the-variants.{Absent, At}
 
@@ -33,23 +35,28 @@ front-byte s q r e = sym (getD-drop q s 0 0 ∙ ap (λ (m : ℕ). getD s m 0) (a
 
 -- ---- the PAN
 
--- digits and then no digit: as many as a text starts with
-pub lead-is : (p : List ℕ) (b : ℕ) (y : List ℕ) → allDigits p ≡ true → isDigit b ≡ false → lead (p ++ b ∷ y) ≡ length p
-unfolding lead
-lead-is [] b y d e = rw e
-lead-is (x ∷ p) b y d e = let t = every-head isDigit x p d in rw (t .0) (ap suc (lead-is p b y (t .1) e))
+module _ (f : ℕ → Bool) where
+  -- bytes that pass a test and then one that doesn't: as many as a text starts with
+  pub lead-is : (p : List ℕ) (b : ℕ) (y : List ℕ) → every f p ≡ true → f b ≡ false → leading f (p ++ b ∷ y) ≡ length p
+  unfolding leading
+  lead-is [] b y d e = rw e
+  lead-is (x ∷ p) b y d e = let t = every-head f x p d in rw (t .0) (ap suc (lead-is p b y (t .1) e))
 
-lead-by : (b : ℕ) (s : List ℕ) (x : Bool) → isDigit b ≡ x → allDigits (take (lead s) s) ≡ true → allDigits (take (lead (b ∷ s)) (b ∷ s)) ≡ true
-unfolding lead every
-lead-by b s true e h = simp e h
-lead-by b s false e h = simp e
+  lead-by : (b : ℕ) (s : List ℕ) (x : Bool) → f b ≡ x → every f (take (leading f s) s) ≡ true → every f (take (leading f (b ∷ s)) (b ∷ s)) ≡ true
+  unfolding leading every
+  lead-by b s true e h = simp e h
+  lead-by b s false e h = simp e
 
-pub lead-digits : (s : List ℕ) → allDigits (take (lead s) s) ≡ true
-unfolding lead every
-lead-digits [] = refl
-lead-digits (b ∷ s) = lead-by b s (isDigit b) refl (lead-digits s)
+  pub lead-pass : (s : List ℕ) → every f (take (leading f s) s) ≡ true
+  unfolding leading every
+  lead-pass [] = refl
+  lead-pass (b ∷ s) = lead-by b s (f b) refl (lead-pass s)
 
--- ---- a field, `=` or a piece of n bytes that passes the test; what passes is n digits
+-- ---- a field, the mark or a piece of n bytes that passes the test; what passes is n digits, and the mark is none
+
+mark-over : (k : Track) → 57 < mark k
+mark-over Two = omega arith
+mark-over One = omega arith
 
 pub record Digits (n : ℕ) (test : List ℕ → Bool) : Type 0 where
   pub some : 0 < n
@@ -72,37 +79,37 @@ service-is = record {
   digits = λ t e. both-true (eqb (length t) 3) _ e .1;
 }
 
-module _ (n : ℕ) (test : List ℕ → Bool) (ok : Digits n test) (s : List ℕ) (q : ℕ) where
+module _ (k : Track) (n : ℕ) (test : List ℕ → Bool) (ok : Digits n test) (s : List ℕ) (q : ℕ) where
   -- a written field is found
-  pub field-found : (o : Optional) (y : List ℕ) → drop q s ≡ written o ++ y → Passes test o → fieldRule test n s q ≡ gives (placed q o)
+  pub field-found : (o : Optional) (y : List ℕ) → drop q s ≡ written k o ++ y → Passes test o → fieldRule k test n s q ≡ gives (placed q o)
   unfolding fieldRule
-  field-found absent y e h = rw (eq-eqb (getD s q 0) 61 (front-byte s q (61 ∷ y) e))
+  field-found absent y e h = rw (eq-eqb (getD s q 0) (mark k) (front-byte s q (mark k ∷ y) e))
   field-found (present t) y e h =
       let l : 0 < length t = omega (arith, ok .size t h, ok .some) in
       let d : isDigit (getD t 0 0) ≡ true = every-at isDigit t 0 (ok .digits t h) l in
       let b : getD s q 0 ≡ getD t 0 0 = front-byte s q (t ++ y) e ∙ List·getD-append t y 0 0 l in
       let w : take n (drop q s) ≡ t = ap (take n) e ∙ take-at t y n (ok .size t h) in
-      rw (ne-eqb (getD s q 0) 61 (λ z. omega (arith, digit-small (getD t 0 0) d)), w, h)
+      rw (ne-eqb (getD s q 0) (mark k) (λ z. omega (arith, mark-over k, digit-small (getD t 0 0) d)), w, h)
 
-  pub past-written : (o : Optional) → Passes test o → past n q (placed q o) ≡ q + length (written o)
+  pub past-written : (o : Optional) → Passes test o → past n q (placed q o) ≡ q + length (written k o)
   past-written absent h = refl
   past-written (present t) h = ap (λ (m : ℕ). q + m) (sym (ok .size t h))
 
   -- and a found one is written
   pub record Written (f : Field) : Type 0 where
-    pub text : drop q s ≡ written (fieldIn n s f) ++ drop (past n q f) s
+    pub text : drop q s ≡ written k (fieldIn n s f) ++ drop (past n q f) s
     pub right : Passes test (fieldIn n s f)
     pub place : placed q (fieldIn n s f) ≡ f
 
-  pub field-written : (f : Field) → fieldRule test n s q ≡ gives f → Written f
+  pub field-written : (f : Field) → fieldRule k test n s q ≡ gives f → Written f
   unfolding fieldRule
-  field-written f e = by (equalsAt s q) refl e
+  field-written f e = by (markAt k s q) refl e
     where
-      by : (b : Bool) → equalsAt s q ≡ b → cond b (gives Absent) (demand (test (take n (drop q s))) 6 (gives (At q))) ≡ gives f → Written f
+      by : (b : Bool) → markAt k s q ≡ b → cond b (gives Absent) (demand (test (take n (drop q s))) 6 (gives (At q))) ≡ gives f → Written f
       by true h g =
           let z : Absent ≡ f = cc in
-          let b : getD s q 0 ≡ 61 = eqb-true (getD s q 0) 61 h in
-          subst Written z (record { text = rw (add-one, ← b) (drop-cons s q 0 (present-byte s q (omega arith))); right = tt; place = refl })
+          let b : getD s q 0 ≡ mark k = eqb-true (getD s q 0) (mark k) h in
+          subst Written z (record { text = rw (add-one, ← b) (drop-cons s q 0 (present-byte s q (omega (arith, mark-over k)))); right = tt; place = refl })
       by false h g =
           let p = passed (test (take n (drop q s))) 6 (gives (At q)) f g in
           let y : gives (At q) ≡ gives f = p .1 in

@@ -10,19 +10,21 @@ use lib.ListN.{length, getD, take, drop, take-append-drop, length-append, length
 use lib.Seq.{drop-cons, drop-drop, take-at, drop-append-add, take-append-seam, drop-append-seam, length-take-le}
 use borrow.Author.Tests.{eqb-true, eq-eqb}
 use denote.Ref.{RefT}
-use Rattle.text.specs.Bytes.{isDigit, allDigits}
+use Rattle.text.specs.Bytes.{isDigit, every, allDigits}
 use Rattle.text.proofs.Tests.{inside-is, both-true}
 use Rattle.text.proofs.Parts.{Same, part-one}
 use Rattle.reasons.specs.Reasons.{Outcome, numberOf, numberIn, gives, refuses, demand, andThen}
 use Rattle.reasons.proofs.Laws.{gives-refuses, refuses-one, passed, stopped, went-on, went-wrong}
 use Rattle.pan.specs.Pan.{panLength}
-use Rattle.layout.specs.Layout.{isExpiry, isService, lead, equalsAt, fieldRule, past, Places, restRule, serviceRule, expiryRule, layoutRule, said, CutOf, fieldCut, panCut, expiryCut, serviceCut, restCut}
+use Rattle.layout.specs.Layout.{allowed, isExpiry, isService, lead, markAt, fieldRule, past, Places, restRule, serviceRule, expiryRule, layoutRule, said, CutOf, fieldCut, panCut, expiryCut, serviceCut, restCut}
 use Rattle.layout.specs.Grammar.{Optional, absent, present, written, Passes, Pieces, textOf, Formed, placed, placesOf, fieldIn, piecesAt}
+use Rattle.layout.specs.declared.inner.Track.{Track}
+use Rattle.layout.specs.declared.inner.Track.the-variants.{Two}
 use Rattle.layout.specs.declared.Field.{Field}
 use Rattle.layout.specs.declared.Field.the-variants.{Absent, At}
 use Rattle.layout.specs.declared.Division.{Division}
 use Rattle.layout.specs.declared.Division.the-variants.{Fields, Refused}
-use Rattle.layout.proofs.Forms.{present-byte, front-byte, lead-is, lead-digits, Digits, expiry-is, service-is, field-found, past-written, Written, field-written}
+use Rattle.layout.proofs.Forms.{present-byte, front-byte, lead-is, lead-pass, Digits, expiry-is, service-is, field-found, past-written, Written, field-written}
 
 -- pieces, and places, with the same parts are the same
 same-pieces : {a a′ r r′ : List ℕ} {e e′ v v′ : Optional} → a ≡ a′ → e ≡ e′ → v ≡ v′ → r ≡ r′
@@ -39,45 +41,45 @@ same-places {a} {a′} {r} {r′} {e} {e′} {v} {v′} h i j k =
 
 -- the text of pieces, from each place on
 module _ (g : Pieces) where
-  from-expiry : drop (length (g .pan) + 1) (textOf g) ≡ written (g .expiry) ++ (written (g .service) ++ g .discretionary)
-  from-expiry = drop-append-add (g .pan) (61 ∷ (written (g .expiry) ++ (written (g .service) ++ g .discretionary))) 1
+  from-expiry : drop (length (g .pan) + 1) (textOf g) ≡ written Two (g .expiry) ++ (written Two (g .service) ++ g .discretionary)
+  from-expiry = drop-append-add (g .pan) (61 ∷ (written Two (g .expiry) ++ (written Two (g .service) ++ g .discretionary))) 1
 
-  from-service : drop (length (g .pan) + 1 + length (written (g .expiry))) (textOf g) ≡ written (g .service) ++ g .discretionary
+  from-service : drop (length (g .pan) + 1 + length (written Two (g .expiry))) (textOf g) ≡ written Two (g .service) ++ g .discretionary
   from-service =
-      sym (drop-drop (length (written (g .expiry))) (length (g .pan) + 1) (textOf g)) ∙ ap (drop (length (written (g .expiry)))) from-expiry
-      ∙ drop-append-seam (written (g .expiry)) (written (g .service) ++ g .discretionary)
+      sym (drop-drop (length (written Two (g .expiry))) (length (g .pan) + 1) (textOf g)) ∙ ap (drop (length (written Two (g .expiry)))) from-expiry
+      ∙ drop-append-seam (written Two (g .expiry)) (written Two (g .service) ++ g .discretionary)
 
-  from-rest : drop (length (g .pan) + 1 + length (written (g .expiry)) + length (written (g .service))) (textOf g) ≡ g .discretionary
+  from-rest : drop (length (g .pan) + 1 + length (written Two (g .expiry)) + length (written Two (g .service))) (textOf g) ≡ g .discretionary
   from-rest =
-      sym (drop-drop (length (written (g .service))) (length (g .pan) + 1 + length (written (g .expiry))) (textOf g))
-      ∙ ap (drop (length (written (g .service)))) from-service ∙ drop-append-seam (written (g .service)) (g .discretionary)
+      sym (drop-drop (length (written Two (g .service))) (length (g .pan) + 1 + length (written Two (g .expiry))) (textOf g))
+      ∙ ap (drop (length (written Two (g .service)))) from-service ∙ drop-append-seam (written Two (g .service)) (g .discretionary)
 
   at-equals : getD (textOf g) (length (g .pan)) 0 ≡ 61
-  at-equals = front-byte (textOf g) (length (g .pan)) (61 ∷ (written (g .expiry) ++ (written (g .service) ++ g .discretionary)))
-      (drop-append-seam (g .pan) (61 ∷ (written (g .expiry) ++ (written (g .service) ++ g .discretionary))))
+  at-equals = front-byte (textOf g) (length (g .pan)) (61 ∷ (written Two (g .expiry) ++ (written Two (g .service) ++ g .discretionary)))
+      (drop-append-seam (g .pan) (61 ∷ (written Two (g .expiry) ++ (written Two (g .service) ++ g .discretionary))))
 
   -- "A text is accepted exactly when it has this form": what has it is accepted, and divided into its pieces
   pub form-accepted : Formed g → layoutRule (textOf g) ≡ gives (placesOf g)
   unfolding layoutRule expiryRule serviceRule restRule isDigit
   form-accepted ok =
-      let p : lead (textOf g) ≡ length (g .pan) = lead-is (g .pan) 61 _ (ok .pan-digits) refl in
-      let e = field-found 4 isExpiry expiry-is (textOf g) (length (g .pan) + 1) (g .expiry) _ from-expiry (ok .expiry-right) in
-      let pe = past-written 4 isExpiry expiry-is (textOf g) (length (g .pan) + 1) (g .expiry) (ok .expiry-right) in
-      let v = field-found 3 isService service-is (textOf g) (length (g .pan) + 1 + length (written (g .expiry))) (g .service) _ from-service (ok .service-right) in
-      let pv = past-written 3 isService service-is (textOf g) (length (g .pan) + 1 + length (written (g .expiry))) (g .service) (ok .service-right) in
+      let p : lead (textOf g) ≡ length (g .pan) = lead-is isDigit (g .pan) 61 _ (ok .pan-digits) refl in
+      let e = field-found Two 4 isExpiry expiry-is (textOf g) (length (g .pan) + 1) (g .expiry) _ from-expiry (ok .expiry-right) in
+      let pe = past-written Two 4 isExpiry expiry-is (textOf g) (length (g .pan) + 1) (g .expiry) (ok .expiry-right) in
+      let v = field-found Two 3 isService service-is (textOf g) (length (g .pan) + 1 + length (written Two (g .expiry))) (g .service) _ from-service (ok .service-right) in
+      let pv = past-written Two 3 isService service-is (textOf g) (length (g .pan) + 1 + length (written Two (g .expiry))) (g .service) (ok .service-right) in
       rw (p, ok .pan-length, eq-eqb (getD (textOf g) (length (g .pan)) 0) 61 at-equals, e, pe, v, pv, from-rest, ok .rest-digits)
 
   -- its pieces are read off again
-  again : (n : ℕ) (test : List ℕ → Bool) → Digits n test → (q : ℕ) (o : Optional) (y : List ℕ) → drop q (textOf g) ≡ written o ++ y → Passes test o
+  again : (n : ℕ) (test : List ℕ → Bool) → Digits n test → (q : ℕ) (o : Optional) (y : List ℕ) → drop q (textOf g) ≡ written Two o ++ y → Passes test o
       → fieldIn n (textOf g) (placed q o) ≡ o
   again n test k q absent y e h = refl
   again n test k q (present t) y e h = ap present (ap (take n) e ∙ take-at t y n (k .size t h))
 
   pub pieces-again : Formed g → piecesAt (textOf g) (placesOf g) ≡ g
   pieces-again ok =
-      same-pieces (take-append-seam (g .pan) (61 ∷ (written (g .expiry) ++ (written (g .service) ++ g .discretionary))))
+      same-pieces (take-append-seam (g .pan) (61 ∷ (written Two (g .expiry) ++ (written Two (g .service) ++ g .discretionary))))
       (again 4 isExpiry expiry-is (length (g .pan) + 1) (g .expiry) _ from-expiry (ok .expiry-right))
-      (again 3 isService service-is (length (g .pan) + 1 + length (written (g .expiry))) (g .service) _ from-service (ok .service-right))
+      (again 3 isService service-is (length (g .pan) + 1 + length (written Two (g .expiry))) (g .service) _ from-service (ok .service-right))
       from-rest
 
 -- "its division is the only one": two divisions of one text are the same
@@ -95,7 +97,7 @@ pub record Divides (s : List ℕ) (d : Places) : Type 0 where
 
 -- and what is accepted has the form
 module _ (s : List ℕ) (p : ℕ) (e v : Field) (long : panLength p ≡ true) (digits : allDigits (take p s) ≡ true) (equals : getD s p 0 ≡ 61)
-    (we : Written 4 isExpiry expiry-is s (p + 1) e) (wv : Written 3 isService service-is s (past 4 (p + 1) e) v)
+    (we : Written Two 4 isExpiry expiry-is s (p + 1) e) (wv : Written Two 3 isService service-is s (past 4 (p + 1) e) v)
     (rest : allDigits (drop (past 3 (past 4 (p + 1) e) v) s) ≡ true) where
   abbrev found : Places
   found = record { pan = p; expiry = e; service = v; rest = past 3 (past 4 (p + 1) e) v }
@@ -106,40 +108,62 @@ module _ (s : List ℕ) (p : ℕ) (e v : Field) (long : panLength p ≡ true) (d
   pan-size : length (take p s) ≡ p
   pan-size = length-take-le p s (omega (arith, within))
 
-  expiry-end : past 4 (p + 1) e ≡ p + 1 + length (written (fieldIn 4 s e))
-  expiry-end = ap (past 4 (p + 1)) (sym (we .place)) ∙ past-written 4 isExpiry expiry-is s (p + 1) (fieldIn 4 s e) (we .right)
+  expiry-end : past 4 (p + 1) e ≡ p + 1 + length (written Two (fieldIn 4 s e))
+  expiry-end = ap (past 4 (p + 1)) (sym (we .place)) ∙ past-written Two 4 isExpiry expiry-is s (p + 1) (fieldIn 4 s e) (we .right)
 
-  service-end : past 3 (past 4 (p + 1) e) v ≡ past 4 (p + 1) e + length (written (fieldIn 3 s v))
-  service-end = ap (past 3 (past 4 (p + 1) e)) (sym (wv .place)) ∙ past-written 3 isService service-is s (past 4 (p + 1) e) (fieldIn 3 s v) (wv .right)
+  service-end : past 3 (past 4 (p + 1) e) v ≡ past 4 (p + 1) e + length (written Two (fieldIn 3 s v))
+  service-end = ap (past 3 (past 4 (p + 1) e)) (sym (wv .place)) ∙ past-written Two 3 isService service-is s (past 4 (p + 1) e) (fieldIn 3 s v) (wv .right)
 
   divides : Divides s found
   divides = record {
     formed = record { pan-length = rw pan-size long; pan-digits = digits; expiry-right = we .right; service-right = wv .right; rest-digits = rest };
     text =
         ap (λ (l : List ℕ). take p s ++ l)
-        (ap (λ (l : List ℕ). 61 ∷ (written (fieldIn 4 s e) ++ l)) (sym (wv .text)) ∙ ap (λ (l : List ℕ). 61 ∷ l) (sym (we .text))
+        (ap (λ (l : List ℕ). 61 ∷ (written Two (fieldIn 4 s e) ++ l)) (sym (wv .text)) ∙ ap (λ (l : List ℕ). 61 ∷ l) (sym (we .text))
         ∙ sym (drop-cons s p 0 within ∙ ap₂ (λ (b : ℕ) (l : List ℕ). b ∷ l) equals (ap (λ (m : ℕ). drop m s) (sym (add-one p)))))
         ∙ take-append-drop p s;
     places =
         same-places pan-size
         (ap (λ (m : ℕ). placed (m + 1) (fieldIn 4 s e)) pan-size ∙ we .place)
-        (ap (λ (m : ℕ). placed m (fieldIn 3 s v)) (ap (λ (m : ℕ). m + 1 + length (written (fieldIn 4 s e))) pan-size ∙ sym expiry-end) ∙ wv .place)
-        (ap (λ (m : ℕ). m + length (written (fieldIn 3 s v))) (ap (λ (m : ℕ). m + 1 + length (written (fieldIn 4 s e))) pan-size ∙ sym expiry-end) ∙ sym service-end);
+        (ap (λ (m : ℕ). placed m (fieldIn 3 s v)) (ap (λ (m : ℕ). m + 1 + length (written Two (fieldIn 4 s e))) pan-size ∙ sym expiry-end) ∙ wv .place)
+        (ap (λ (m : ℕ). m + length (written Two (fieldIn 3 s v))) (ap (λ (m : ℕ). m + 1 + length (written Two (fieldIn 4 s e))) pan-size ∙ sym expiry-end) ∙ sym service-end);
   }
 
+-- what is accepted from the expiry's place on: the fields are written there, one behind the other
+pub record Tail (k : Track) (s : List ℕ) (p q : ℕ) (d : Places) : Type 0 where
+  pub pan : d .pan ≡ p
+  pub expiry : Written k 4 isExpiry expiry-is s q (d .expiry)
+  pub service : Written k 3 isService service-is s (past 4 q (d .expiry)) (d .service)
+  pub rest : d .rest ≡ past 3 (past 4 q (d .expiry)) (d .service)
+  pub free : every (allowed k) (drop (d .rest) s) ≡ true
+
+pub tail-there : (k : Track) (s : List ℕ) (p q : ℕ) (d : Places) → expiryRule k s p q ≡ gives d → Tail k s p q d
+unfolding expiryRule serviceRule restRule
+tail-there k s p q d accepted =
+    let e = went-on (fieldRule k isExpiry 4 s q) _ d accepted in
+    let v = went-on (fieldRule k isService 3 s (past 4 q (e .0))) _ d (e .2) in
+    let r = passed (every (allowed k) (drop (past 3 (past 4 q (e .0)) (v .0)) s)) 6 _ d (v .2) in
+    let z : record { pan = p; expiry = e .0; service = v .0; rest = past 3 (past 4 q (e .0)) (v .0) } ≡ d = cc (r .1) in
+    subst (Tail k s p q) z
+    (record {
+      pan = refl;
+      expiry = field-written k 4 isExpiry expiry-is s q (e .0) (e .1);
+      service = field-written k 3 isService service-is s (past 4 q (e .0)) (v .0) (v .1);
+      rest = refl;
+      free = r .0;
+    })
+
 pub accepted-form : (s : List ℕ) (d : Places) → layoutRule s ≡ gives d → Divides s d
-unfolding layoutRule expiryRule serviceRule restRule
+unfolding layoutRule
 accepted-form s d accepted =
-    let start = passed (panLength (lead s) && equalsAt s (lead s)) 6 _ d accepted in
-    let pan = both-true (panLength (lead s)) (equalsAt s (lead s)) (start .0) in
-    let e = went-on (fieldRule isExpiry 4 s (lead s + 1)) _ d (start .1) in
-    let v = went-on (fieldRule isService 3 s (past 4 (lead s + 1) (e .0))) _ d (e .2) in
-    let r = passed (allDigits (drop (past 3 (past 4 (lead s + 1) (e .0)) (v .0)) s)) 6 _ d (v .2) in
-    let g : gives (record { pan = lead s; expiry = e .0; service = v .0; rest = past 3 (past 4 (lead s + 1) (e .0)) (v .0) }) ≡ gives d = r .1 in
-    let z : record { pan = lead s; expiry = e .0; service = v .0; rest = past 3 (past 4 (lead s + 1) (e .0)) (v .0) } ≡ d = cc in
+    let start = passed (panLength (lead s) && markAt Two s (lead s)) 6 _ d accepted in
+    let pan = both-true (panLength (lead s)) (markAt Two s (lead s)) (start .0) in
+    let t = tail-there Two s (lead s) (lead s + 1) d (start .1) in
+    let z : record { pan = lead s; expiry = d .expiry; service = d .service; rest = past 3 (past 4 (lead s + 1) (d .expiry)) (d .service) } ≡ d =
+    same-places (sym (t .pan)) refl refl (sym (t .rest)) in
+    let free : allDigits (drop (past 3 (past 4 (lead s + 1) (d .expiry)) (d .service)) s) ≡ true = subst (λ (m : ℕ). allDigits (drop m s) ≡ true) (t .rest) (t .free) in
     subst (Divides s) z
-    (divides s (lead s) (e .0) (v .0) (pan .0) (lead-digits s) (eqb-true (getD s (lead s) 0) 61 (pan .1))
-    (field-written 4 isExpiry expiry-is s (lead s + 1) (e .0) (e .1)) (field-written 3 isService service-is s (past 4 (lead s + 1) (e .0)) (v .0) (v .1)) (r .0))
+    (divides s (lead s) (d .expiry) (d .service) (pan .0) (lead-pass isDigit s) (eqb-true (getD s (lead s) 0) 61 (pan .1)) (t .expiry) (t .service) free)
 
 -- so that the parts stand within it
 module _ (s : List ℕ) (d : Places) (accepted : layoutRule s ≡ gives d) where
@@ -163,7 +187,7 @@ module _ (s : List ℕ) (d : Places) (accepted : layoutRule s ≡ gives d) where
   service-fits = field-fits 3 isService service-is (d .service) (accepted-form s d accepted .formed .service-right)
 
 -- and near its front
-written-size : (n : ℕ) (test : List ℕ → Bool) → Digits n test → (o : Optional) → Passes test o → length (written o) ≤ n
+written-size : (n : ℕ) (test : List ℕ → Bool) → Digits n test → (o : Optional) → Passes test o → length (written Two o) ≤ n
 written-size n test k absent h = k .some
 written-size n test k (present t) h = omega (arith, k .size t h)
 
@@ -182,7 +206,7 @@ places-small s d accepted =
     subst (λ (x : Places). (x .pan ≤ 19) × (fieldCut 4 (x .expiry) .start ≤ 20) × (fieldCut 3 (x .service) .start ≤ 24) × (x .rest ≤ 27)) (a .places) (
       p,
       omega (arith, p, placed-start 4 (length (g .pan) + 1) (g .expiry)),
-      omega (arith, p, e, placed-start 3 (length (g .pan) + 1 + length (written (g .expiry))) (g .service)),
+      omega (arith, p, e, placed-start 3 (length (g .pan) + 1 + length (written Two (g .expiry))) (g .service)),
       omega (arith, p, e, v),
     )
 

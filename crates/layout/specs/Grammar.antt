@@ -6,7 +6,9 @@ use mathlib.Core.Bool.{Bool, true}
 use lib.ListN.{length, take, drop}
 use Rattle.text.specs.Bytes.{allDigits}
 use Rattle.pan.specs.Pan.{panLength}
-use Rattle.layout.specs.Layout.{isExpiry, isService, Places}
+use Rattle.layout.specs.Layout.{mark, isExpiry, isService, Places}
+use Rattle.layout.specs.declared.inner.Track.{Track}
+use Rattle.layout.specs.declared.inner.Track.the-variants.{Two}
 use Rattle.layout.specs.declared.Field.{Field}
 use Rattle.layout.specs.declared.Field.the-variants.{Absent, At}
 
@@ -16,9 +18,9 @@ pub data Optional : Type 0 where
   present : List ℕ → Optional
 
 -- as it is written: "or `=` for none"
-abbrev pub written : Optional → List ℕ
-written absent = 61 ∷ []
-written (present t) = t
+abbrev pub written : Track → Optional → List ℕ
+written k absent = mark k ∷ []
+written k (present t) = t
 
 -- a present one passes the test
 abbrev pub Passes : (List ℕ → Bool) → Optional → Type 0
@@ -33,7 +35,7 @@ pub record Pieces : Type 0 where
 
 -- "PAN of 13 to 19 digits; `=`; expiry ..; service code ..; then discretionary data"
 abbrev pub textOf : Pieces → List ℕ
-textOf g = g .pan ++ 61 ∷ (written (g .expiry) ++ (written (g .service) ++ g .discretionary))
+textOf g = g .pan ++ 61 ∷ (written Two (g .expiry) ++ (written Two (g .service) ++ g .discretionary))
 
 pub record Formed (g : Pieces) : Type 0 where
   pub pan-length : panLength (length (g .pan)) ≡ true
@@ -51,8 +53,8 @@ abbrev pub placesOf : Pieces → Places
 placesOf g = record {
   pan = length (g .pan);
   expiry = placed (length (g .pan) + 1) (g .expiry);
-  service = placed (length (g .pan) + 1 + length (written (g .expiry))) (g .service);
-  rest = length (g .pan) + 1 + length (written (g .expiry)) + length (written (g .service));
+  service = placed (length (g .pan) + 1 + length (written Two (g .expiry))) (g .service);
+  rest = length (g .pan) + 1 + length (written Two (g .expiry)) + length (written Two (g .service));
 }
 
 -- the pieces of a text that stand at these places

@@ -1,21 +1,41 @@
 -- The characters between the sentinels (ISO/IEC 7813), divided. Assumes nothing.
 use Prim.Native.Nat.{ℕ, suc, _+_, _-_}
 use mathlib.Core.List.{List, [], _∷_}
-use mathlib.Core.Bool.{Bool, _&&_, cond}
+use mathlib.Core.Bool.{Bool, _&&_, not, cond}
 use lib.ListN.{length, getD, take, drop}
 use lib.Dec.{eqb}
 use denote.Ref.{RefT}
-use Rattle.text.specs.Bytes.{within, isDigit, allDigits}
+use Rattle.text.specs.Bytes.{within, isDigit, every, allDigits}
 use Rattle.text.specs.Numbers.{decimal}
 use Rattle.text.specs.Parts.{PartOf}
 use Rattle.reasons.specs.Reasons.{numberOf, Outcome, gives, refuses, demand, andThen}
 use Rattle.pan.specs.Pan.{panLength}
+use Rattle.layout.specs.declared.inner.Track.{Track}
+use Rattle.layout.specs.declared.inner.Track.the-variants.{Two, One}
 use Rattle.layout.specs.declared.Field.{Field}
 use Rattle.layout.specs.declared.Field.the-variants.{Absent, At}
-use Rattle.layout.specs.declared.Due.{Due}
-use Rattle.layout.specs.declared.Due.the-variants.{Missing, Present, Wrong}
+use Rattle.layout.specs.declared.inner.Due.{Due}
+use Rattle.layout.specs.declared.inner.Due.the-variants.{Missing, Present, Wrong}
 use Rattle.layout.specs.declared.Division.{Division}
 use Rattle.layout.specs.declared.Division.the-variants.{Fields, Refused}
+
+-- ---- how a track's fields are written
+
+-- "`=`", and on track 1 "`^`": what ends the PAN, and stands for an absent field
+abbrev pub mark : Track → ℕ
+mark Two = 61
+mark One = 94
+
+-- "Name and discretionary data may hold any character but `%`, `^` and `?`", of the 64 from byte 32 on
+unfoldable pub isNamed : ℕ → Bool
+isNamed b = within 32 95 b && (not (eqb b 37) && (not (eqb b 63) && not (eqb b 94)))
+
+-- what discretionary data may hold: "digits only", and on track 1 what a name may
+abbrev pub allowed : Track → ℕ → Bool
+allowed Two = isDigit
+allowed One = isNamed
+
+-- ---- the fields
 
 -- "expiry as four digits YYMM with MM 01 to 12"
 unfoldable pub isExpiry : List ℕ → Bool
@@ -25,18 +45,22 @@ isExpiry t = eqb (length t) 4 && (allDigits t && within 1 12 (decimal (drop 2 t)
 unfoldable pub isService : List ℕ → Bool
 isService t = eqb (length t) 3 && allDigits t
 
--- how many digits a text starts with
-unfoldable pub lead : List ℕ → ℕ
-lead [] = 0
-lead (b ∷ s) = cond (isDigit b) (suc (lead s)) 0
+-- how many bytes a text starts with that pass a test
+unfoldable pub leading : (ℕ → Bool) → List ℕ → ℕ
+leading f [] = 0
+leading f (b ∷ s) = cond (f b) (suc (leading f s)) 0
 
--- `=` stands at q; past the end stands 0
-abbrev pub equalsAt : List ℕ → ℕ → Bool
-equalsAt s q = eqb (getD s q 0) 61
+-- and how many digits
+abbrev pub lead : List ℕ → ℕ
+lead s = leading isDigit s
+
+-- the mark stands at q; past the end stands 0
+abbrev pub markAt : Track → List ℕ → ℕ → Bool
+markAt k s q = eqb (getD s q 0) (mark k)
 
 -- a field of n bytes at q, "or `=` for none"
-unfoldable pub fieldRule : (List ℕ → Bool) → ℕ → List ℕ → ℕ → Outcome Field
-fieldRule test n s q = cond (equalsAt s q) (gives Absent) (demand (test (take n (drop q s))) 6 (gives (At q)))
+unfoldable pub fieldRule : Track → (List ℕ → Bool) → ℕ → List ℕ → ℕ → Outcome Field
+fieldRule k test n s q = cond (markAt k s q) (gives Absent) (demand (test (take n (drop q s))) 6 (gives (At q)))
 
 -- where the next one starts
 abbrev pub past : ℕ → ℕ → Field → ℕ
@@ -53,20 +77,20 @@ pub record Places : Type 0 where
   pub rest : ℕ
 
 -- "then discretionary data, digits only, perhaps none"
-unfoldable pub restRule : List ℕ → Places → Outcome Places
-restRule s d = demand (allDigits (drop (d .rest) s)) 6 (gives d)
+unfoldable pub restRule : Track → List ℕ → Places → Outcome Places
+restRule k s d = demand (every (allowed k) (drop (d .rest) s)) 6 (gives d)
 
 -- "service code as three digits, or `=` for none", at q, p being the PAN's length and e the expiry
-unfoldable pub serviceRule : List ℕ → ℕ → Field → ℕ → Outcome Places
-serviceRule s p e q = andThen (fieldRule isService 3 s q) (λ v. restRule s (record { pan = p; expiry = e; service = v; rest = past 3 q v }))
+unfoldable pub serviceRule : Track → List ℕ → ℕ → Field → ℕ → Outcome Places
+serviceRule k s p e q = andThen (fieldRule k isService 3 s q) (λ v. restRule k s (record { pan = p; expiry = e; service = v; rest = past 3 q v }))
 
--- "expiry as four digits YYMM .., or `=` for none", behind a PAN of p digits and `=`
-unfoldable pub expiryRule : List ℕ → ℕ → Outcome Places
-expiryRule s p = andThen (fieldRule isExpiry 4 s (p + 1)) (λ e. serviceRule s p e (past 4 (p + 1) e))
+-- "expiry as four digits YYMM .., or `=` for none", at q
+unfoldable pub expiryRule : Track → List ℕ → ℕ → ℕ → Outcome Places
+expiryRule k s p q = andThen (fieldRule k isExpiry 4 s q) (λ e. serviceRule k s p e (past 4 q e))
 
 -- "PAN of 13 to 19 digits; `=`; .. Anything else is 6"
 unfoldable pub layoutRule : List ℕ → Outcome Places
-layoutRule s = demand (panLength (lead s) && equalsAt s (lead s)) 6 (expiryRule s (lead s))
+layoutRule s = demand (panLength (lead s) && markAt Two s (lead s)) 6 (expiryRule Two s (lead s) (lead s + 1))
 
 -- what the answers say
 abbrev pub said : Division → Outcome Places

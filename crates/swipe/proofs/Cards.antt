@@ -21,19 +21,19 @@ use Rattle.bits.specs.Reading.{Format, Track as Read, readRule, readBytes, coun
 use Rattle.bits.proofs.Laws.{chars-fit}
 use Rattle.bits.proofs.Counts as counts
 use Rattle.layout.specs.Layout.{Cut, layoutRule}
+use Rattle.layout.specs.declared.inner.Track.{Track}
+use Rattle.layout.specs.declared.inner.Track.the-variants.{Two, One}
 use Rattle.layout.proofs.Laws.{accepted-form, pan-fits}
+use Rattle.layout1.specs.Layout1.{layout1Rule}
+use Rattle.layout1.proofs.Laws.{has-pan}
 use Rattle.journal.proofs.Rule.{Fine}
-use Rattle.swipe.specs.Swipe.{format, placeRule, room, Given, Payer, payerRule, partOf, charsRule, cardRule, saidCard, panEnd, PanAt}
-use Rattle.swipe.specs.declared.Track.{Track}
-use Rattle.swipe.specs.declared.Track.the-variants.{Two}
+use Rattle.swipe.specs.Swipe.{format, divisionRule, room, Given, Payer, payerRule, partOf, charsRule, cardRule, saidCard, panEnd, PanAt}
 use Rattle.swipe.specs.declared.Card.{Card}
 use Rattle.swipe.specs.declared.Card.the-variants.{Pays, Refused}
 
-pub only-two : (k : Track) → Two ≡ k
-only-two Two = refl
-
 pub room-small : (k : Track) → room k ≤ 76
 room-small Two = omega arith
+room-small One = omega arith
 
 -- a part that ends within the front of a text
 part-front : (a n m : ℕ) (s : List ℕ) → a + n ≤ m → partOf (take m s) a n ≡ partOf s a n
@@ -91,27 +91,32 @@ pan-pays site acquirer pan p e =
 -- ---- of the characters
 
 -- where a division puts the PAN there is one
-pub pan-there : (k : Track) (chars : List ℕ) (c : Cut) → placeRule k chars ≡ gives c → PanAt chars (c .start) (c .size)
+pub pan-there : (k : Track) (chars : List ℕ) (c : Cut) → divisionRule k chars ≡ gives c → PanAt chars (c .start) (c .size)
 pan-there Two chars c e =
     let a = went-on (layoutRule chars) _ c e in
     let f = accepted-form chars (a .0) (a .1) .formed in
     let z : record { start = 0; size = a .0 .pan } ≡ c = cc (a .2) in
     subst (λ (x : Cut). PanAt chars (x .start) (x .size)) z
     (record { fits = omega (arith, pan-fits chars (a .0) (a .1)); count = f .pan-length; digits = f .pan-digits })
+pan-there One chars c e =
+    let a = went-on (layout1Rule chars) _ c e in
+    let h = has-pan chars (a .0) (a .1) in
+    let z : record { start = 1; size = a .0 .pan } ≡ c = cc (a .2) in
+    subst (λ (x : Cut). PanAt chars (x .start) (x .size)) z (record { fits = h .fits; count = h .count; digits = h .digits })
 
 module _ (k : Track) (site acquirer chars : List ℕ) where
-  pub bad-layout : (n : ℕ) → placeRule k chars ≡ refuses n → charsRule k site acquirer chars ≡ refuses n
+  pub bad-layout : (n : ℕ) → divisionRule k chars ≡ refuses n → charsRule k site acquirer chars ≡ refuses n
   unfolding charsRule
   bad-layout n e = rw e
 
-  pub with-pan : (a n : ℕ) → placeRule k chars ≡ gives (record { start = a; size = n }) → charsRule k site acquirer chars ≡ payerRule site acquirer (partOf chars a n)
+  pub with-pan : (a n : ℕ) → divisionRule k chars ≡ gives (record { start = a; size = n }) → charsRule k site acquirer chars ≡ payerRule site acquirer (partOf chars a n)
   unfolding charsRule
   with-pan a n e = rw e
 
   chars-pay : (p : Payer) → charsRule k site acquirer chars ≡ gives p → Fine (p .pan)
   unfolding charsRule
   chars-pay p e =
-      let a = went-on (placeRule k chars) _ p e in
+      let a = went-on (divisionRule k chars) _ p e in
       let l = pan-there k chars (a .0) (a .1) in
       let b = pan-pays site acquirer (partOf chars (a .0 .start) (a .0 .size)) p (a .2) in
       subst Fine (sym (b .1)) (record { count = l .count; digits = l .digits; sum = b .0 })

@@ -22,8 +22,8 @@ use Rattle.journal.specs.declared.Booked.{Booked}
 use Rattle.journal.specs.declared.Booked.the-variants as booked
 use Rattle.journal.proofs.Rule.{Fine, book-done}
 use Rattle.swipe.specs.Swipe.{room, Given, given, Payer, cardRule, boxRule, readyRule, swipeRule, swipeAnswer, swipeBytes, swipeScratch, saidSwiped, Swipes}
-use Rattle.swipe.specs.declared.Track.{Track}
-use Rattle.swipe.specs.declared.Track.the-variants.{Two}
+use Rattle.layout.specs.declared.inner.Track.{Track}
+use Rattle.layout.specs.declared.inner.Track.the-variants.{Two, One}
 use Rattle.swipe.specs.declared.Swiped.{Swiped}
 use Rattle.swipe.specs.declared.Swiped.the-variants.{Serial, Refused}
 use Rattle.swipe.proofs.Cards.{card-pays}
@@ -124,6 +124,9 @@ same-decision m g amount space j k e = rw e
 -- "scratch under 37 (1)", "with 76 bytes of scratch"
 pub room-two : room Two ≡ 37
 room-two = refl
+
+pub room-one : room One ≡ 76
+room-one = refl
 
 module _ (n : ℕ) (t : List ℕ) (h : n ≤ length t) where
   zeros-fit : 0 + length {A = ℕ} (replicate n 0) ≤ length t

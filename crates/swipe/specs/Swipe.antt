@@ -12,14 +12,16 @@ use Rattle.luhn.specs.Luhn.{passes}
 use Rattle.pan.specs.Pan.{panLength}
 use Rattle.ranges.specs.Ranges.{tableOk, labelRule}
 use Rattle.bits.specs.Reading.{Format, readRule}
+use Rattle.track1.specs.Track1.{track1}
 use Rattle.track2.specs.Track2.{track2}
 use Rattle.layout.specs.Layout.{Cut, layoutRule}
+use Rattle.layout.specs.declared.inner.Track.{Track}
+use Rattle.layout.specs.declared.inner.Track.the-variants.{Two, One}
+use Rattle.layout1.specs.Layout1.{layout1Rule}
 use Rattle.slots.specs.Journal.{NewestIs}
 use Rattle.slots.specs.Views.{formed, newest}
 use Rattle.slots.specs.declared.Newest.{Newest}
 use Rattle.journal.specs.Rules.{full, bookRule, bookBytes}
-use Rattle.swipe.specs.declared.Track.{Track}
-use Rattle.swipe.specs.declared.Track.the-variants.{Two}
 use Rattle.swipe.specs.declared.Spot.{Spot}
 use Rattle.swipe.specs.declared.Spot.the-variants as spot
 use Rattle.swipe.specs.declared.Swiped.{Swiped}
@@ -34,14 +36,16 @@ use Rattle.swipe.specs.declared.Card.the-variants as card
 -- how the bits are read
 abbrev pub format : Track → Format
 format Two = track2
+format One = track1
 
 -- the characters' division: where the PAN stands in them, "layout 6"
-abbrev pub placeRule : Track → List ℕ → Outcome Cut
-placeRule Two chars = andThen (layoutRule chars) (λ d. gives (record { start = 0; size = d .pan }))
+abbrev pub divisionRule : Track → List ℕ → Outcome Cut
+divisionRule Two chars = andThen (layoutRule chars) (λ d. gives (record { start = 0; size = d .pan }))
+divisionRule One chars = andThen (layout1Rule chars) (λ d. gives (record { start = 1; size = d .pan }))
 
 -- ---- what is the same
 
--- "scratch under 37 (1)": as much as the reading asks of its output
+-- "scratch under 37 (1)", "with 76 bytes of scratch": as much as the reading asks of its output
 abbrev pub room : Track → ℕ
 room k = format k .limit - 2
 
@@ -55,6 +59,12 @@ pub record Given : Type 0 where
 
 abbrev pub given : Track → List ℕ → ℕ → List ℕ → List ℕ → Given
 given k s n i a = record { track = k; stream = s; bits = n; site = i; acquirer = a }
+
+abbrev pub given2 : List ℕ → ℕ → List ℕ → List ℕ → Given
+given2 = given Two
+
+abbrev pub given1 : List ℕ → ℕ → List ℕ → List ℕ → Given
+given1 = given One
 
 -- what a swipe makes of it: the PAN, and the label of its range
 pub record Payer : Type 0 where
@@ -74,7 +84,7 @@ partOf chars a n = take n (drop a chars)
 
 -- of the characters between the sentinels: "layout 6", then their PAN
 unfoldable pub charsRule : Track → List ℕ → List ℕ → List ℕ → Outcome Payer
-charsRule k site acquirer chars = andThen (placeRule k chars) (λ c. payerRule site acquirer (partOf chars (c .start) (c .size)))
+charsRule k site acquirer chars = andThen (divisionRule k chars) (λ c. payerRule site acquirer (partOf chars (c .start) (c .size)))
 
 -- of the stripe: "the reading's refusals", with an output that is long enough, then the characters
 unfoldable pub cardRule : Given → Outcome Payer

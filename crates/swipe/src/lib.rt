@@ -1,6 +1,6 @@
 // One swipe, from the stripe to the journal.
 use bits::Read;
-use layout::Division;
+use layout::inner::Track;
 use ranges::inner::Labelled;
 use reasons::Reason;
 use reasons::Tested;
@@ -13,14 +13,9 @@ ghost use Rattle.text.specs.Numbers.{put};
 ghost use Rattle.ranges.specs.Ranges.{tableOk};
 ghost use Rattle.bits.specs.Reading.{readRule, readBytes, said, counted};
 ghost use Rattle.slots.specs.Views.{Seen};
-ghost use Rattle.swipe.specs.Swipe.{format, placeRule, room, given, payerRule, partOf, charsRule, cardRule, boxRule, saidBookable, saidSpot, saidCard, panEnd, PanAt, Charges, Swipes};
-ghost use Rattle.swipe.specs.declared.Track.the-variants.{Two};
+ghost use Rattle.swipe.specs.Swipe.{format, divisionRule, room, given, given1, given2, payerRule, partOf, charsRule, cardRule, boxRule, saidBookable, saidSpot, saidCard, panEnd, PanAt, Charges, Swipes};
 
 // ---- the tracks that a swipe reads, and what differs between them
-
-pub enum Track {
-    Two,
-}
 
 // The scratch that a track's characters need.
 fn room_of(track: Track) -> usize
@@ -28,6 +23,7 @@ fn room_of(track: Track) -> usize
 {
     match track {
         Track::Two => 37,
+        Track::One => 76,
     }
 }
 
@@ -38,6 +34,7 @@ fn read(track: Track, stream: &[u8], bits: u64, out: &mut [u8]) -> Read
 {
     match track {
         Track::Two => track2::read(stream, bits, out),
+        Track::One => track1::read(stream, bits, out),
     }
 }
 
@@ -49,17 +46,27 @@ pub enum Spot {
 
 // The layout of the characters between the sentinels.
 fn pan_spot(track: Track, chars: &[u8]) -> Spot
-    ensures { λ r. ⌜ saidSpot r ≡ placeRule track (now (chars .entry)) ⌝ }
+    ensures { λ r. ⌜ saidSpot r ≡ divisionRule track (now (chars .entry)) ⌝ }
 {
     match track {
         Track::Two => match layout::divide(chars) {
-            Division::Refused(r) => Spot::Refused(r),
-            Division::Fields {
+            layout::Division::Refused(r) => Spot::Refused(r),
+            layout::Division::Fields {
                 pan: n,
                 expiry: _,
                 service: _,
                 rest: _,
             } => Spot::Stands(0, n),
+        },
+        Track::One => match layout1::divide(chars) {
+            layout1::Division::Refused(r) => Spot::Refused(r),
+            layout1::Division::Fields {
+                pan: n,
+                name: _,
+                expiry: _,
+                service: _,
+                rest: _,
+            } => Spot::Stands(1, n),
         },
     }
 }
@@ -235,7 +242,7 @@ fn swipe_on(
     r
 }
 
-// A swipe: it refuses, or it books one payment and answers its serial. The scratch holds the card's characters in between.
+// A swipe of track 2: it refuses, or it books one payment and answers its serial. The scratch holds the card's characters in between.
 pub fn swipe(
     stream: &[u8],
     bits: u64,
@@ -246,10 +253,36 @@ pub fn swipe(
     scratch: &mut [u8],
     journal: &mut [u8],
 ) -> Swiped
-    ensures { λ r. ⌜ Swipes (given Two (now (stream .entry)) bits (now (site .entry)) (now (acquirer .entry))) amount clock (now (scratch .entry)) (now (journal .entry)) r (now (scratch .exit)) (now (journal .exit)) ⌝ }
+    ensures { λ r. ⌜ Swipes (given2 (now (stream .entry)) bits (now (site .entry)) (now (acquirer .entry))) amount clock (now (scratch .entry)) (now (journal .entry)) r (now (scratch .exit)) (now (journal .exit)) ⌝ }
 {
     swipe_on(
         Track::Two,
+        stream,
+        bits,
+        site,
+        acquirer,
+        amount,
+        clock,
+        scratch,
+        journal,
+    )
+}
+
+// A swipe of track 1: the same, with 76 bytes of scratch.
+pub fn swipe1(
+    stream: &[u8],
+    bits: u64,
+    site: &[u8],
+    acquirer: &[u8],
+    amount: u32,
+    clock: u32,
+    scratch: &mut [u8],
+    journal: &mut [u8],
+) -> Swiped
+    ensures { λ r. ⌜ Swipes (given1 (now (stream .entry)) bits (now (site .entry)) (now (acquirer .entry))) amount clock (now (scratch .entry)) (now (journal .entry)) r (now (scratch .exit)) (now (journal .exit)) ⌝ }
+{
+    swipe_on(
+        Track::One,
         stream,
         bits,
         site,

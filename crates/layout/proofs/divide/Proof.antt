@@ -22,6 +22,9 @@ returns-3 c =
     let b = c .before in
     unmarked _ _ (b .before .before .before .lead-of .ensures .0) (omega arith) (omega arith) (λ e. c .if3 .taken (b .byte-at .ensures ∙ e))
 
+add-with-expiry : tie.Need-add-with-expiry
+add-with-expiry c = search needs
+
 with-expiry-requires : tie.Need-with-expiry-requires
 with-expiry-requires c κs = search needs
 
@@ -39,5 +42,6 @@ divide-spec =
     returns-2
     byte-at-requires
     returns-3
+    add-with-expiry
     with-expiry-requires
     returns-4)

@@ -1,7 +1,7 @@
 -- `card_of_chars` divides the characters and asks about their PAN. Assumes nothing.
 use mathlib.Core.Path.{_≡_, sym, ap, _∙_}
 use native.Mathlib.Omega.{arith}
-use Rattle.swipe.specs.Swipe.{placeRule, saidSpot}
+use Rattle.swipe.specs.Swipe.{divisionRule, saidSpot}
 use Rattle.swipe.specs.declared.Spot.{Spot}
 use Rattle.swipe.proofs.Cards.{pan-there, bad-layout, with-pan}
 use borrow.Author.Needs.{needs}
@@ -12,7 +12,7 @@ abbrev start : tie.After-pan-spot → tie.Start
 start c = c .before .before .before .before
 
 -- what the division said
-spot : (c : tie.After-pan-spot) (r : Spot) → c .pan-spot .result ≡ r → placeRule (start c .args .track) (start c .args .chars .now) ≡ saidSpot r
+spot : (c : tie.After-pan-spot) (r : Spot) → c .pan-spot .result ≡ r → divisionRule (start c .args .track) (start c .args .chars .now) ≡ saidSpot r
 spot c r e = sym (c .pan-spot .ensures) ∙ ap saidSpot e
 
 pan-spot-requires : tie.Need-pan-spot-requires
