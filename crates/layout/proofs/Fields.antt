@@ -88,7 +88,8 @@ module _ (k : Track) (test : List ℕ → Bool) (n : ℕ) (s : List ℕ) (q : �
   field-there e b t = rw (ne-eqb (getD s q 0) (mark k) e, t)
 
 -- the division, from its end back to its start
-pub rest-tested : (k : Track) (s : List ℕ) (d : Places) (b : Bool) → every (allowed k) (take (length s) (drop (d .rest) s)) ≡ b → demand b 6 (gives d) ≡ restRule k s d
+pub rest-tested : (k : Track) (s : List ℕ) (d : Places) (b : Bool) → every (allowed k) (take (length s) (drop (d .rest) s)) ≡ b
+    → demand b 6 (gives d) ≡ restRule k s d
 unfolding restRule
 rest-tested k s d b e = rw (← take-all (length s) (drop (d .rest) s) (rw length-drop (omega arith)), e)
 

@@ -39,20 +39,38 @@ same-places {a} {a′} {r} {r′} {e} {e′} {v} {v′} h i j k =
     ap₂ (λ (x : ℕ) (y : Field). record { pan = x; expiry = y; service = v; rest = r }) h i
     ∙ ap₂ (λ (x : Field) (y : ℕ). record { pan = a′; expiry = e′; service = x; rest = y }) j k
 
+-- ---- the fields from the expiry's place q on, of either track
+
+-- a written field is read off again
+pub field-again : (k : Track) (n : ℕ) (test : List ℕ → Bool) → Digits n test → (s : List ℕ) (q : ℕ) (o : Optional) (y : List ℕ)
+    → drop q s ≡ written k o ++ y → Passes test o → fieldIn n s (placed q o) ≡ o
+field-again k n test d s q absent y h t = refl
+field-again k n test d s q (present o) y h t = ap present (ap (take n) h ∙ take-at o y n (d .size o t))
+
+module _ (k : Track) (s : List ℕ) (p q : ℕ) (e v : Optional) (r : List ℕ) (text : drop q s ≡ written k e ++ (written k v ++ r)) where
+  pub behind-expiry : drop (q + length (written k e)) s ≡ written k v ++ r
+  behind-expiry = sym (drop-drop (length (written k e)) q s) ∙ ap (drop (length (written k e))) text ∙ drop-append-seam (written k e) (written k v ++ r)
+
+  pub behind-service : drop (q + length (written k e) + length (written k v)) s ≡ r
+  behind-service =
+      sym (drop-drop (length (written k v)) (q + length (written k e)) s) ∙ ap (drop (length (written k v))) behind-expiry ∙ drop-append-seam (written k v) r
+
+  -- what is written there is accepted
+  pub tail-accepted : Passes isExpiry e → Passes isService v → every (allowed k) r ≡ true
+      → expiryRule k s p q
+      ≡ gives (record { pan = p; expiry = placed q e; service = placed (q + length (written k e)) v; rest = q + length (written k e) + length (written k v) })
+  unfolding expiryRule serviceRule restRule
+  tail-accepted he hv hr =
+      let fe = field-found k 4 isExpiry expiry-is s q e _ text he in
+      let pe = past-written k 4 isExpiry expiry-is s q e he in
+      let fv = field-found k 3 isService service-is s (q + length (written k e)) v _ behind-expiry hv in
+      let pv = past-written k 3 isService service-is s (q + length (written k e)) v hv in
+      rw (fe, pe, fv, pv, behind-service, hr)
+
 -- the text of pieces, from each place on
 module _ (g : Pieces) where
   from-expiry : drop (length (g .pan) + 1) (textOf g) ≡ written Two (g .expiry) ++ (written Two (g .service) ++ g .discretionary)
   from-expiry = drop-append-add (g .pan) (61 ∷ (written Two (g .expiry) ++ (written Two (g .service) ++ g .discretionary))) 1
-
-  from-service : drop (length (g .pan) + 1 + length (written Two (g .expiry))) (textOf g) ≡ written Two (g .service) ++ g .discretionary
-  from-service =
-      sym (drop-drop (length (written Two (g .expiry))) (length (g .pan) + 1) (textOf g)) ∙ ap (drop (length (written Two (g .expiry)))) from-expiry
-      ∙ drop-append-seam (written Two (g .expiry)) (written Two (g .service) ++ g .discretionary)
-
-  from-rest : drop (length (g .pan) + 1 + length (written Two (g .expiry)) + length (written Two (g .service))) (textOf g) ≡ g .discretionary
-  from-rest =
-      sym (drop-drop (length (written Two (g .service))) (length (g .pan) + 1 + length (written Two (g .expiry))) (textOf g))
-      ∙ ap (drop (length (written Two (g .service)))) from-service ∙ drop-append-seam (written Two (g .service)) (g .discretionary)
 
   at-equals : getD (textOf g) (length (g .pan)) 0 ≡ 61
   at-equals = front-byte (textOf g) (length (g .pan)) (61 ∷ (written Two (g .expiry) ++ (written Two (g .service) ++ g .discretionary)))
@@ -60,27 +78,23 @@ module _ (g : Pieces) where
 
   -- "A text is accepted exactly when it has this form": what has it is accepted, and divided into its pieces
   pub form-accepted : Formed g → layoutRule (textOf g) ≡ gives (placesOf g)
-  unfolding layoutRule expiryRule serviceRule restRule isDigit
+  unfolding layoutRule isDigit
   form-accepted ok =
       let p : lead (textOf g) ≡ length (g .pan) = lead-is isDigit (g .pan) 61 _ (ok .pan-digits) refl in
-      let e = field-found Two 4 isExpiry expiry-is (textOf g) (length (g .pan) + 1) (g .expiry) _ from-expiry (ok .expiry-right) in
-      let pe = past-written Two 4 isExpiry expiry-is (textOf g) (length (g .pan) + 1) (g .expiry) (ok .expiry-right) in
-      let v = field-found Two 3 isService service-is (textOf g) (length (g .pan) + 1 + length (written Two (g .expiry))) (g .service) _ from-service (ok .service-right) in
-      let pv = past-written Two 3 isService service-is (textOf g) (length (g .pan) + 1 + length (written Two (g .expiry))) (g .service) (ok .service-right) in
-      rw (p, ok .pan-length, eq-eqb (getD (textOf g) (length (g .pan)) 0) 61 at-equals, e, pe, v, pv, from-rest, ok .rest-digits)
+      rw (p, ok .pan-length, eq-eqb (getD (textOf g) (length (g .pan)) 0) 61 at-equals)
+      (tail-accepted Two (textOf g) (length (g .pan)) (length (g .pan) + 1) (g .expiry) (g .service) (g .discretionary) from-expiry
+      (ok .expiry-right) (ok .service-right) (ok .rest-digits))
 
   -- its pieces are read off again
-  again : (n : ℕ) (test : List ℕ → Bool) → Digits n test → (q : ℕ) (o : Optional) (y : List ℕ) → drop q (textOf g) ≡ written Two o ++ y → Passes test o
-      → fieldIn n (textOf g) (placed q o) ≡ o
-  again n test k q absent y e h = refl
-  again n test k q (present t) y e h = ap present (ap (take n) e ∙ take-at t y n (k .size t h))
-
   pub pieces-again : Formed g → piecesAt (textOf g) (placesOf g) ≡ g
   pieces-again ok =
+      let q = length (g .pan) + 1 in
+      let s = textOf g in
+      let v = behind-expiry Two s 0 q (g .expiry) (g .service) (g .discretionary) from-expiry in
       same-pieces (take-append-seam (g .pan) (61 ∷ (written Two (g .expiry) ++ (written Two (g .service) ++ g .discretionary))))
-      (again 4 isExpiry expiry-is (length (g .pan) + 1) (g .expiry) _ from-expiry (ok .expiry-right))
-      (again 3 isService service-is (length (g .pan) + 1 + length (written Two (g .expiry))) (g .service) _ from-service (ok .service-right))
-      from-rest
+      (field-again Two 4 isExpiry expiry-is s q (g .expiry) _ from-expiry (ok .expiry-right))
+      (field-again Two 3 isService service-is s (q + length (written Two (g .expiry))) (g .service) _ v (ok .service-right))
+      (behind-service Two s 0 q (g .expiry) (g .service) (g .discretionary) from-expiry)
 
 -- "its division is the only one": two divisions of one text are the same
 pub only-division : (g h : Pieces) → Formed g → Formed h → textOf g ≡ textOf h → g ≡ h
@@ -161,11 +175,17 @@ accepted-form s d accepted =
     let t = tail-there Two s (lead s) (lead s + 1) d (start .1) in
     let z : record { pan = lead s; expiry = d .expiry; service = d .service; rest = past 3 (past 4 (lead s + 1) (d .expiry)) (d .service) } ≡ d =
     same-places (sym (t .pan)) refl refl (sym (t .rest)) in
-    let free : allDigits (drop (past 3 (past 4 (lead s + 1) (d .expiry)) (d .service)) s) ≡ true = subst (λ (m : ℕ). allDigits (drop m s) ≡ true) (t .rest) (t .free) in
+    let free : allDigits (drop (past 3 (past 4 (lead s + 1) (d .expiry)) (d .service)) s) ≡ true =
+    subst (λ (m : ℕ). allDigits (drop m s) ≡ true) (t .rest) (t .free) in
     subst (Divides s) z
     (divides s (lead s) (d .expiry) (d .service) (pan .0) (lead-pass isDigit s) (eqb-true (getD s (lead s) 0) 61 (pan .1)) (t .expiry) (t .service) free)
 
 -- so that the parts stand within it
+pub field-fits : (s : List ℕ) (n : ℕ) (test : List ℕ → Bool) → Digits n test → (f : Field) → Passes test (fieldIn n s f)
+    → fieldCut n f .start + fieldCut n f .size ≤ length s
+field-fits s n test k Absent h = omega arith
+field-fits s n test k (At q) h = omega (arith, k .some, simp (length-take, length-drop) at (k .size (take n (drop q s)) h))
+
 module _ (s : List ℕ) (d : Places) (accepted : layoutRule s ≡ gives d) where
   pub pan-fits : d .pan ≤ length s
   pan-fits = omega (arith, length-take (d .pan) s, ap (λ (x : Places). x .pan) (accepted-form s d accepted .places))
@@ -176,15 +196,11 @@ module _ (s : List ℕ) (d : Places) (accepted : layoutRule s ≡ gives d) where
       let a = accepted-form s d accepted in
       omega (arith, ap (λ (x : Places). x .rest) (a .places), simp length-append at (ap length (a .text)))
 
-  field-fits : (n : ℕ) (test : List ℕ → Bool) → Digits n test → (f : Field) → Passes test (fieldIn n s f) → fieldCut n f .start + fieldCut n f .size ≤ length s
-  field-fits n test k Absent h = omega arith
-  field-fits n test k (At q) h = omega (arith, k .some, simp (length-take, length-drop) at (k .size (take n (drop q s)) h))
-
   pub expiry-fits : fieldCut 4 (d .expiry) .start + fieldCut 4 (d .expiry) .size ≤ length s
-  expiry-fits = field-fits 4 isExpiry expiry-is (d .expiry) (accepted-form s d accepted .formed .expiry-right)
+  expiry-fits = field-fits s 4 isExpiry expiry-is (d .expiry) (accepted-form s d accepted .formed .expiry-right)
 
   pub service-fits : fieldCut 3 (d .service) .start + fieldCut 3 (d .service) .size ≤ length s
-  service-fits = field-fits 3 isService service-is (d .service) (accepted-form s d accepted .formed .service-right)
+  service-fits = field-fits s 3 isService service-is (d .service) (accepted-form s d accepted .formed .service-right)
 
 -- and near its front
 written-size : (n : ℕ) (test : List ℕ → Bool) → Digits n test → (o : Optional) → Passes test o → length (written Two o) ≤ n

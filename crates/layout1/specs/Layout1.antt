@@ -1,5 +1,5 @@
 -- The characters between track 1's sentinels (request E1; ISO/IEC 7813), divided. Assumes nothing.
-use Prim.Native.Nat.{ℕ, _+_}
+use Prim.Native.Nat.{ℕ, _+_, _-_}
 use mathlib.Core.List.{List}
 use mathlib.Core.Bool.{_&&_}
 use lib.ListN.{getD, drop}
@@ -7,7 +7,7 @@ use lib.Dec.{eqb}
 use Rattle.text.specs.Bytes.{within}
 use Rattle.reasons.specs.Reasons.{numberOf, Outcome, gives, refuses, demand, andThen}
 use Rattle.pan.specs.Pan.{panLength}
-use Rattle.layout.specs.Layout.{isNamed, leading, lead, markAt, expiryRule}
+use Rattle.layout.specs.Layout.{isNamed, leading, lead, markAt, expiryRule, Cut, none, fieldCut}
 use Rattle.layout.specs.Layout as fields
 use Rattle.layout.specs.declared.inner.Track.the-variants.{One}
 use Rattle.layout.specs.declared.Field.{Field}
@@ -50,3 +50,25 @@ layout1Rule s =
 abbrev pub said : Division → Outcome Places
 said (Fields p n e v r) = gives (record { pan = p; name = n; expiry = e; service = v; rest = r })
 said (Refused r) = refuses (numberOf r)
+
+-- "PAN, name and the rest come back as parts of the characters": each part's start and size; a refusal, and an absent field, give an empty part
+abbrev pub panCut : Outcome Places → Cut
+panCut (gives d) = record { start = 1; size = d .pan }
+panCut (refuses n) = none
+
+abbrev pub nameCut : Outcome Places → Cut
+nameCut (gives d) = record { start = d .pan + 2; size = d .name }
+nameCut (refuses n) = none
+
+abbrev pub expiryCut : Outcome Places → Cut
+expiryCut (gives d) = fieldCut 4 (d .expiry)
+expiryCut (refuses n) = none
+
+abbrev pub serviceCut : Outcome Places → Cut
+serviceCut (gives d) = fieldCut 3 (d .service)
+serviceCut (refuses n) = none
+
+-- the discretionary data of a text of m characters
+abbrev pub restCut : ℕ → Outcome Places → Cut
+restCut m (gives d) = record { start = d .rest; size = m - d .rest }
+restCut m (refuses n) = none

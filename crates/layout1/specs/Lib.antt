@@ -1,1 +1,2 @@
 pub mod Layout1
+pub mod Grammar1

@@ -1,10 +1,15 @@
 // The characters between track 1's sentinels (ISO/IEC 7813), divided into PAN, name, expiry, service code and discretionary data.
 use layout::Field;
 use layout::inner::Track;
+use layout::inner::cut;
+use layout::inner::field_of;
 use reasons::Reason;
 ghost use mathlib.Core.Path.{_≡_};
 ghost use Prim.Native.Nat.{_≤_};
-ghost use Rattle.layout1.specs.Layout1.{fieldsRule, nameRule, layout1Rule, said};
+ghost use lib.ListN.{length};
+ghost use Rattle.reasons.specs.Reasons.{numberIn};
+ghost use Rattle.layout.specs.Layout.{CutOf};
+ghost use Rattle.layout1.specs.Layout1.{fieldsRule, nameRule, layout1Rule, said, panCut, nameCut, expiryCut, serviceCut, restCut};
 
 // The lengths of PAN and name, where expiry and service code stand, and where the discretionary data start; or why the text is refused.
 pub enum Division {
@@ -76,4 +81,100 @@ pub fn divide(chars: &[u8]) -> Division
         return Division::Refused(Reason::WrongLayout);
     }
     with_pan(chars, pan)
+}
+
+// The PAN; a refusal gives an empty part.
+pub fn pan_of(chars: &[u8]) -> &[u8]
+    ensures { λ r. ⌜ CutOf (chars .entry) (panCut (layout1Rule (now (chars .entry)))) r ⌝ }
+{
+    match divide(chars) {
+        Division::Fields {
+            pan,
+            name: _,
+            expiry: _,
+            service: _,
+            rest: _,
+        } => cut(chars, 1, pan),
+        Division::Refused(_) => cut(chars, 0, 0),
+    }
+}
+
+// The name; a refusal gives an empty part.
+pub fn name_of(chars: &[u8]) -> &[u8]
+    ensures { λ r. ⌜ CutOf (chars .entry) (nameCut (layout1Rule (now (chars .entry)))) r ⌝ }
+{
+    match divide(chars) {
+        Division::Fields {
+            pan,
+            name,
+            expiry: _,
+            service: _,
+            rest: _,
+        } => cut(chars, pan + 2, name),
+        Division::Refused(_) => cut(chars, 0, 0),
+    }
+}
+
+// The expiry; a refusal, and an absent expiry, give an empty part.
+pub fn expiry_of(chars: &[u8]) -> &[u8]
+    ensures { λ r. ⌜ CutOf (chars .entry) (expiryCut (layout1Rule (now (chars .entry)))) r ⌝ }
+{
+    match divide(chars) {
+        Division::Fields {
+            pan: _,
+            name: _,
+            expiry,
+            service: _,
+            rest: _,
+        } => field_of(chars, expiry, 4),
+        Division::Refused(_) => cut(chars, 0, 0),
+    }
+}
+
+// The service code; a refusal, and an absent service code, give an empty part.
+pub fn service_of(chars: &[u8]) -> &[u8]
+    ensures { λ r. ⌜ CutOf (chars .entry) (serviceCut (layout1Rule (now (chars .entry)))) r ⌝ }
+{
+    match divide(chars) {
+        Division::Fields {
+            pan: _,
+            name: _,
+            expiry: _,
+            service,
+            rest: _,
+        } => field_of(chars, service, 3),
+        Division::Refused(_) => cut(chars, 0, 0),
+    }
+}
+
+// The discretionary data; a refusal gives an empty part.
+pub fn discretionary_of(chars: &[u8]) -> &[u8]
+    ensures { λ r. ⌜ CutOf (chars .entry) (restCut (length (now (chars .entry))) (layout1Rule (now (chars .entry)))) r ⌝ }
+{
+    match divide(chars) {
+        Division::Fields {
+            pan: _,
+            name: _,
+            expiry: _,
+            service: _,
+            rest,
+        } => cut(chars, rest, chars.len() - rest),
+        Division::Refused(_) => cut(chars, 0, 0),
+    }
+}
+
+// The number of the parts' refusal, 0 where there is none.
+pub fn divide_number(chars: &[u8]) -> u32
+    ensures { λ r. ⌜ r ≡ numberIn (layout1Rule (now (chars .entry))) ⌝ }
+{
+    match divide(chars) {
+        Division::Fields {
+            pan: _,
+            name: _,
+            expiry: _,
+            service: _,
+            rest: _,
+        } => 0,
+        Division::Refused(r) => reasons::number(r),
+    }
 }

@@ -23,9 +23,9 @@ use Rattle.bits.proofs.Counts as counts
 use Rattle.layout.specs.Layout.{Cut, layoutRule}
 use Rattle.layout.specs.declared.inner.Track.{Track}
 use Rattle.layout.specs.declared.inner.Track.the-variants.{Two, One}
-use Rattle.layout.proofs.Laws.{accepted-form, pan-fits}
+use Rattle.layout.proofs.Laws as layout
 use Rattle.layout1.specs.Layout1.{layout1Rule}
-use Rattle.layout1.proofs.Laws.{has-pan}
+use Rattle.layout1.proofs.Laws as layout1
 use Rattle.journal.proofs.Rule.{Fine}
 use Rattle.swipe.specs.Swipe.{format, divisionRule, room, Given, Payer, payerRule, partOf, charsRule, cardRule, saidCard, panEnd, PanAt}
 use Rattle.swipe.specs.declared.Card.{Card}
@@ -75,7 +75,8 @@ module _ (site acquirer pan : List ℕ) (l : panLength (length pan) ≡ true) (d
   unfolding payerRule
   no-label n e f = simp (luhn-passed e, f)
 
-  pub with-label : (x : ℕ) → luhnRule pan ≡ gives tt → labelRule site acquirer pan ≡ gives x → payerRule site acquirer pan ≡ gives (record { pan = pan; label = x })
+  pub with-label : (x : ℕ) → luhnRule pan ≡ gives tt → labelRule site acquirer pan ≡ gives x
+      → payerRule site acquirer pan ≡ gives (record { pan = pan; label = x })
   unfolding payerRule
   with-label x e f = simp (luhn-passed e, f)
 
@@ -94,22 +95,24 @@ pan-pays site acquirer pan p e =
 pub pan-there : (k : Track) (chars : List ℕ) (c : Cut) → divisionRule k chars ≡ gives c → PanAt chars (c .start) (c .size)
 pan-there Two chars c e =
     let a = went-on (layoutRule chars) _ c e in
-    let f = accepted-form chars (a .0) (a .1) .formed in
+    let f = layout.accepted-form chars (a .0) (a .1) .formed in
     let z : record { start = 0; size = a .0 .pan } ≡ c = cc (a .2) in
     subst (λ (x : Cut). PanAt chars (x .start) (x .size)) z
-    (record { fits = omega (arith, pan-fits chars (a .0) (a .1)); count = f .pan-length; digits = f .pan-digits })
+    (record { fits = omega (arith, layout.pan-fits chars (a .0) (a .1)); count = f .pan-length; digits = f .pan-digits })
 pan-there One chars c e =
     let a = went-on (layout1Rule chars) _ c e in
-    let h = has-pan chars (a .0) (a .1) in
+    let f = layout1.accepted-form chars (a .0) (a .1) .formed in
     let z : record { start = 1; size = a .0 .pan } ≡ c = cc (a .2) in
-    subst (λ (x : Cut). PanAt chars (x .start) (x .size)) z (record { fits = h .fits; count = h .count; digits = h .digits })
+    subst (λ (x : Cut). PanAt chars (x .start) (x .size)) z
+    (record { fits = layout1.pan-fits chars (a .0) (a .1); count = f .pan-length; digits = f .pan-digits })
 
 module _ (k : Track) (site acquirer chars : List ℕ) where
   pub bad-layout : (n : ℕ) → divisionRule k chars ≡ refuses n → charsRule k site acquirer chars ≡ refuses n
   unfolding charsRule
   bad-layout n e = rw e
 
-  pub with-pan : (a n : ℕ) → divisionRule k chars ≡ gives (record { start = a; size = n }) → charsRule k site acquirer chars ≡ payerRule site acquirer (partOf chars a n)
+  pub with-pan : (a n : ℕ) → divisionRule k chars ≡ gives (record { start = a; size = n })
+      → charsRule k site acquirer chars ≡ payerRule site acquirer (partOf chars a n)
   unfolding charsRule
   with-pan a n e = rw e
 

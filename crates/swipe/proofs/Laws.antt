@@ -37,7 +37,8 @@ swiped-one (Refused x) (Serial b) e = gives-refuses b (numberOf x) (sym e)
 swiped-one (Refused x) (Refused y) e = ap Refused (refuses-one x y e)
 
 -- a short scratch is refused and leaves the journal, whatever the journal's view
-short-so : (m : Newest) (g : Given) (amount clock space : ℕ) (j : List ℕ) → space < room (g .track) → (swipeAnswer m g amount space j ≡ refuses 1) × (swipeBytes m g amount space clock j ≡ j)
+short-so : (m : Newest) (g : Given) (amount clock space : ℕ) (j : List ℕ) → space < room (g .track)
+    → (swipeAnswer m g amount space j ≡ refuses 1) × (swipeBytes m g amount space clock j ≡ j)
 unfolding swipeAnswer swipeBytes
 short-so m g amount clock space j h = let e = short-scratch m g amount space j h in (rw e, rw e)
 
@@ -55,8 +56,11 @@ swipe-one g amount clock t j r q u v k l f h = by (decLe (room (g .track)) (leng
         )
     by (no n) =
         let a = short-so (f .view) g amount clock (length t) j (omega arith) in
-        let b = short-so (h .view) g amount clock (length t) j (omega arith) in
-        (swiped-one r q (f .so .answer ∙ a .0 ∙ sym (b .0) ∙ sym (h .so .answer)), f .scratch ∙ sym (h .scratch), f .so .journal ∙ a .1 ∙ sym (b .1) ∙ sym (h .so .journal))
+        let b = short-so (h .view) g amount clock (length t) j (omega arith) in (
+          swiped-one r q (f .so .answer ∙ a .0 ∙ sym (b .0) ∙ sym (h .so .answer)),
+          f .scratch ∙ sym (h .scratch),
+          f .so .journal ∙ a .1 ∙ sym (b .1) ∙ sym (h .so .journal),
+        )
 
 -- ---- "then it books with that record's label"
 
@@ -151,7 +155,8 @@ scratch-short n t h = sym (kept-short n t h)
 
 -- ---- hidden digits leave no trace
 
-record-same : (a b : List ℕ) → length a ≡ length b → shown a ≡ shown b → (s clock amount label : ℕ) → record32 s clock amount label a ≡ record32 s clock amount label b
+record-same : (a b : List ℕ) → length a ≡ length b → shown a ≡ shown b → (s clock amount label : ℕ)
+    → record32 s clock amount label a ≡ record32 s clock amount label b
 unfolding record32
 record-same a b e f s clock amount label = rw (f, e)
 
@@ -163,7 +168,8 @@ booking-same m j a b label amount clock f g e s =
     simp (f .count, f .digits, f .sum, g .count, g .digits, g .sum, same)
 
 -- of two cards that pay alike a swipe leaves the same, whatever the box says
-alike : (o : Outcome ℕ) (j : List ℕ) (f : Payer → List ℕ) (p q : Payer) → f p ≡ f q → after (andThen o (λ _. gives p)) j f ≡ after (andThen o (λ _. gives q)) j f
+alike : (o : Outcome ℕ) (j : List ℕ) (f : Payer → List ℕ) (p q : Payer) → f p ≡ f q
+    → after (andThen o (λ _. gives p)) j f ≡ after (andThen o (λ _. gives q)) j f
 alike (gives b) j f p q e = e
 alike (refuses n) j f p q e = refl
 
@@ -183,5 +189,6 @@ module _ (k : Track) (site acquirer : List ℕ) (m : Newest) (amount space clock
       let book : Payer → List ℕ = λ y. bookBytes m j (y .pan) (y .label) amount clock in
       let left : Outcome Payer → List ℕ = λ c. after (andThen (readyRule m one amount space j) (λ _. c)) j book in
       let same : book p ≡ book q =
-      ap (λ (y : ℕ). bookBytes m j (p .pan) y amount clock) x ∙ booking-same m j (p .pan) (q .pan) (q .label) amount clock (card-pays one p e) (card-pays other q f) l d in
+      ap (λ (y : ℕ). bookBytes m j (p .pan) y amount clock) x
+      ∙ booking-same m j (p .pan) (q .pan) (q .label) amount clock (card-pays one p e) (card-pays other q f) l d in
       ap left e ∙ alike (readyRule m one amount space j) j book p q same ∙ sym (ap left f)

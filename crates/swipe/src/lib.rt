@@ -82,7 +82,8 @@ pub enum Card {
 // Luhn and the look-up, of the n digits from `at`.
 fn card_of_pan(chars: &[u8], at: usize, n: usize, site: &[u8], acquirer: &[u8]) -> Card
     requires { ⌜ (tableOk (now site) ≡ true) × (tableOk (now acquirer) ≡ true) × PanAt (now chars) at n ⌝ }
-    ensures { λ r. ⌜ (saidCard r (now (chars .entry)) ≡ payerRule (now (site .entry)) (now (acquirer .entry)) (partOf (now (chars .entry)) at n)) × (panEnd r ≤ length (now (chars .entry))) ⌝ }
+    ensures { λ r. ⌜ (saidCard r (now (chars .entry)) ≡ payerRule (now (site .entry)) (now (acquirer .entry)) (partOf (now (chars .entry)) at n))
+        × (panEnd r ≤ length (now (chars .entry))) ⌝ }
 {
     let end = at + n;
     let pan = &chars[at..end];
@@ -98,7 +99,8 @@ fn card_of_pan(chars: &[u8], at: usize, n: usize, site: &[u8], acquirer: &[u8]) 
 // The layout of the characters, then their PAN.
 fn card_of_chars(track: Track, chars: &[u8], site: &[u8], acquirer: &[u8]) -> Card
     requires { ⌜ (tableOk (now site) ≡ true) × (tableOk (now acquirer) ≡ true) ⌝ }
-    ensures { λ r. ⌜ (saidCard r (now (chars .entry)) ≡ charsRule track (now (site .entry)) (now (acquirer .entry)) (now (chars .entry))) × (panEnd r ≤ length (now (chars .entry))) ⌝ }
+    ensures { λ r. ⌜ (saidCard r (now (chars .entry)) ≡ charsRule track (now (site .entry)) (now (acquirer .entry)) (now (chars .entry)))
+        × (panEnd r ≤ length (now (chars .entry))) ⌝ }
 {
     match pan_spot(track, chars) {
         Spot::Refused(r) => Card::Refused(r),
@@ -178,7 +180,8 @@ fn book_card(
     journal: &mut [u8],
 ) -> Swiped
     requires { ⌜ room track ≤ length (now scratch) ⌝ }
-    ensures { λ r. ⌜ Seen (now (journal .entry)) (λ m. Charges m (given track (now (stream .entry)) bits (now (site .entry)) (now (acquirer .entry))) amount clock (length (now (scratch .entry))) (now (journal .entry)) r (now (journal .exit)))
+    ensures { λ r. ⌜ Seen (now (journal .entry)) (λ m. Charges m (given track (now (stream .entry)) bits (now (site .entry)) (now (acquirer .entry)))
+        amount clock (length (now (scratch .entry))) (now (journal .entry)) r (now (journal .exit)))
         × (drop (room track) (now (scratch .exit)) ≡ drop (room track) (now (scratch .entry))) ⌝ }
 {
     match ready(site, acquirer, amount, journal) {
@@ -221,7 +224,8 @@ fn swipe_on(
     scratch: &mut [u8],
     journal: &mut [u8],
 ) -> Swiped
-    ensures { λ r. ⌜ Swipes (given track (now (stream .entry)) bits (now (site .entry)) (now (acquirer .entry))) amount clock (now (scratch .entry)) (now (journal .entry)) r (now (scratch .exit)) (now (journal .exit)) ⌝ }
+    ensures { λ r. ⌜ Swipes (given track (now (stream .entry)) bits (now (site .entry)) (now (acquirer .entry))) amount clock
+        (now (scratch .entry)) (now (journal .entry)) r (now (scratch .exit)) (now (journal .exit)) ⌝ }
 {
     let n = room_of(track);
     if scratch.len() < n {
@@ -253,7 +257,8 @@ pub fn swipe(
     scratch: &mut [u8],
     journal: &mut [u8],
 ) -> Swiped
-    ensures { λ r. ⌜ Swipes (given2 (now (stream .entry)) bits (now (site .entry)) (now (acquirer .entry))) amount clock (now (scratch .entry)) (now (journal .entry)) r (now (scratch .exit)) (now (journal .exit)) ⌝ }
+    ensures { λ r. ⌜ Swipes (given2 (now (stream .entry)) bits (now (site .entry)) (now (acquirer .entry))) amount clock
+        (now (scratch .entry)) (now (journal .entry)) r (now (scratch .exit)) (now (journal .exit)) ⌝ }
 {
     swipe_on(
         Track::Two,
@@ -279,7 +284,8 @@ pub fn swipe1(
     scratch: &mut [u8],
     journal: &mut [u8],
 ) -> Swiped
-    ensures { λ r. ⌜ Swipes (given1 (now (stream .entry)) bits (now (site .entry)) (now (acquirer .entry))) amount clock (now (scratch .entry)) (now (journal .entry)) r (now (scratch .exit)) (now (journal .exit)) ⌝ }
+    ensures { λ r. ⌜ Swipes (given1 (now (stream .entry)) bits (now (site .entry)) (now (acquirer .entry))) amount clock
+        (now (scratch .entry)) (now (journal .entry)) r (now (scratch .exit)) (now (journal .exit)) ⌝ }
 {
     swipe_on(
         Track::One,

@@ -1,12 +1,12 @@
 -- `book_card` asks the box and the card, and books. Assumes nothing.
-use Prim.Native.Nat.{ℕ, _+_, _≤_, _<_}
+use Prim.Native.Nat.{ℕ, _+_, _-_, _≤_, _<_}
 use mathlib.Core.Path.{_≡_, refl, sym, ap, _∙_, subst, subst⁻¹}
 use mathlib.Core.List.{List}
 use native.Mathlib.Omega.{arith}
-use lib.ListN.{length}
+use lib.ListN.{length, take, drop}
 use Rattle.text.specs.Numbers.{put}
 use Rattle.text.proofs.Tests.{inside-is}
-use Rattle.reasons.specs.Reasons.{gives}
+use Rattle.reasons.specs.Reasons.{Outcome, gives}
 use Rattle.slots.specs.Record.{record32}
 use Rattle.slots.specs.Journal.{slotsOf, place, NewestIs}
 use Rattle.slots.specs.declared.Newest.{Newest}
@@ -39,16 +39,21 @@ serial-fits : (c : tie.After-known-told2) → serial c < 4294967296
 serial-fits c = omega arith
 
 -- the tests that the box passed
-passed-box : (c : tie.After-known-told2) → let a = start (box c) .args in Open (a .site .now) (a .acquirer .now) (a .amount) (a .journal .now) (box c .ready .ensures .view) (serial c)
+passed-box : (c : tie.After-known-told2) →
+    let a = start (box c) .args in
+    Open (a .site .now) (a .acquirer .now) (a .amount) (a .journal .now) (box c .ready .ensures .view) (serial c)
 passed-box c = opened _ _ _ _ _ _ (sym (box c .ready .ensures .so) ∙ ap saidBookable (c .before .b .given .1))
 
 formed : (c : tie.After-known-told2) → NewestIs (journal (box c)) (Is (serial c))
 formed c = subst (NewestIs (journal (box c))) (passed-box c .view) (box c .ready .ensures .is)
 
-passes : (c : tie.After-known-told2) → let a = start (box c) .args in gives (serial c) ≡ boxRule (Is (serial c)) (a .site .now) (a .acquirer .now) (a .amount) (a .journal .now)
+passes : (c : tie.After-known-told2) →
+    let a = start (box c) .args in
+    gives (serial c) ≡ boxRule (Is (serial c)) (a .site .now) (a .acquirer .now) (a .amount) (a .journal .now)
 passes c =
     let a = start (box c) .args in
-    sym (ap saidBookable (c .before .b .given .1)) ∙ box c .ready .ensures .so ∙ ap (λ (m : Newest). boxRule m (a .site .now) (a .acquirer .now) (a .amount) (a .journal .now)) (passed-box c .view)
+    let rule : Newest → Outcome ℕ = λ m. boxRule m (a .site .now) (a .acquirer .now) (a .amount) (a .journal .now) in
+    sym (ap saidBookable (c .before .b .given .1)) ∙ box c .ready .ensures .so ∙ ap rule (passed-box c .view)
 
 -- what the stripe said: the scratch it left, the payer where there is one
 abbrev told : tie.After-card-of-stripe → tie.After-known-told2
@@ -65,6 +70,12 @@ payer c = record { pan = partOf (left (stripe c)) (c .before .at .given .0 .0) (
 
 card-is : (c : tie.After-known-told4) → cardRule (card (box (told (stripe c)))) ≡ gives (payer c)
 card-is c = sym (stripe c .card-of-stripe .ensures .0) ∙ ap (λ (r : Card). saidCard r (left (stripe c))) (c .before .at .given .1)
+
+-- the part of the scratch that is lent is the PAN
+pan-is : (c : tie.After-known-told4) →
+    let f = c .before .at .given .0 in
+    take (f .0 + f .1 .0 - f .0) (drop (f .0) (left (stripe c))) ≡ payer c .pan
+pan-is c = part-is (left (stripe c)) (c .before .at .given .0 .0) (c .before .at .given .0 .1 .0)
 
 pan-in : (c : tie.After-known-told4) → c .before .at .given .0 .0 + c .before .at .given .0 .1 .0 ≤ length (left (stripe c))
 pan-in c = omega (arith, stripe c .card-of-stripe .ensures .1, ap panEnd (c .before .at .given .1))
@@ -104,7 +115,7 @@ write-at-requires c κs =
     let k = c .before .before .before in
     let w = inside-is 13 19 (length (payer k .pan)) (card-pays _ (payer k) (card-is k) .count) in
     let b = told (stripe k) in
-    let pan = subst⁻¹ (λ (p : List ℕ). (13 ≤ length p) × (length p ≤ 19)) (part-is (left (stripe k)) (c .before .before .before .before .at .given .0 .0) (c .before .before .before .before .at .given .0 .1 .0)) (w .0, w .1) in
+    let pan = subst⁻¹ (λ (p : List ℕ). (13 ≤ length p) × (length p ≤ 19)) (pan-is k) (w .0, w .1) in
     (formed b, (omega (arith, passed-box b .serials, serial-fits b), pan .0, pan .1))
 
 same-length : tie.Need-same-length
@@ -127,7 +138,8 @@ returns-2 c =
     let t = c .before .before .before .before .before in
     let k = told t in
     let e = sym (t .card-of-stripe .ensures .0) ∙ ap (λ (r : Card). saidCard r (left t)) (c .before .r2 .given .1) in
-    (record { view = Is (serial k); is = formed k; so = refused _ _ _ _ _ _ _ (card-next _ _ _ _ _ (start (box k) .pre) _ (passes k) ∙ e) }, t .card-of-stripe .ensures .2)
+    let so = refused _ _ _ _ _ _ _ (card-next _ _ _ _ _ (start (box k) .pre) _ (passes k) ∙ e) in
+    (record { view = Is (serial k); is = formed k; so = so }, t .card-of-stripe .ensures .2)
 
 same-length-4 : tie.Need-same-length-4
 same-length-4 c = search needs
@@ -143,8 +155,9 @@ returns-3 c =
     let k = told t in
     let a = start (box k) .args in
     let j = a .journal .now in
-    let e = ap (λ (l : List ℕ). put j (place (slotsOf j) (serial k + 1)) (record32 (serial k + 1) (a .clock) (a .amount) (payer p .label) l)) (part-is (left t) (p .before .at .given .0 .0) (p .before .at .given .0 .1 .0)) in
-    (record { view = Is (serial k); is = formed k; so = booked _ _ _ _ _ _ (payer p) _ _ (start (box k) .pre) (passes k) (card-is p) (w .write-at .ensures .0) (w .write-at .ensures .1 ∙ e) }, t .card-of-stripe .ensures .2)
+    let e = ap (λ (l : List ℕ). put j (place (slotsOf j) (serial k + 1)) (record32 (serial k + 1) (a .clock) (a .amount) (payer p .label) l)) (pan-is p) in
+    let so = booked _ _ _ _ _ _ (payer p) _ _ (start (box k) .pre) (passes k) (card-is p) (w .write-at .ensures .0) (w .write-at .ensures .1 ∙ e) in
+    (record { view = Is (serial k); is = formed k; so = so }, t .card-of-stripe .ensures .2)
 
 pub book-card-spec : {M : Type 1} → statement M
 book-card-spec =

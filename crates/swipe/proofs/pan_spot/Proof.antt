@@ -10,7 +10,6 @@ use Rattle.swipe.specs.Swipe.{divisionRule}
 use borrow.Author.Needs.{needs}
 use Rattle.swipe.proofs.pan_spot.Statement.{statement}
 use Rattle.swipe.proofs.pan_spot.Tie as tie
-use Rattle.layout.proofs.divide.Reads as divide-reads′
 
 -- what each layout says of the PAN's place
 two : (c : tie.After-divide) (r : layout-answer.Division) → c .divide .result ≡ r →

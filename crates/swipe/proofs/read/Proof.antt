@@ -1,5 +1,5 @@
 -- `read` calls the track's own reading. Assumes nothing.
-use mathlib.Core.Path.{_≡_, sym, ap, _∙_}
+use mathlib.Core.Path.{sym, ap, _∙_}
 use lib.ListN.{length}
 use Rattle.bits.specs.Reading.{readRule, readBytes, counted}
 use Rattle.layout.specs.declared.inner.Track.{Track}
@@ -7,7 +7,6 @@ use Rattle.swipe.specs.Swipe.{format}
 use borrow.Author.Needs.{needs}
 use Rattle.swipe.proofs.read.Statement.{statement}
 use Rattle.swipe.proofs.read.Tie as tie
-use Rattle.track2.proofs.read.Reads as read-reads′
 
 enum-told : tie.Need-enum-told
 enum-told c = search needs

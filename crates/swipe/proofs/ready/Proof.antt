@@ -65,7 +65,9 @@ returns-4 : tie.Need-returns-4
 returns-4 c =
     let three = c .before .before in
     let k = told2 (three .before) in
-    record { view = Is (serial k); is = formed k; so = journal-full _ _ _ _ _ (tables-passed (three .before .before)) (three .before .if2 .left) (three .if3 .left) (sym (c .before .is-full .ensures) ∙ c .if4 .taken) }
+    let f = sym (c .before .is-full .ensures) ∙ c .if4 .taken in
+    let so = journal-full _ _ _ _ _ (tables-passed (three .before .before)) (three .before .if2 .left) (three .if3 .left) f in
+    record { view = Is (serial k); is = formed k; so = so }
 
 returns-5 : tie.Need-returns-5
 returns-5 c =
@@ -77,7 +79,9 @@ returns-6 : tie.Need-returns-6
 returns-6 c =
     let three = c .before .before in
     let k = told2 (three .before) in
-    record { view = Is (serial k); is = formed k; so = all-passed _ _ _ _ _ (tables-passed (three .before .before)) (three .before .if2 .left) (three .if3 .left) (sym (c .before .is-full .ensures) ∙ c .if4 .left) }
+    let f = sym (c .before .is-full .ensures) ∙ c .if4 .left in
+    let so = all-passed _ _ _ _ _ (tables-passed (three .before .before)) (three .before .if2 .left) (three .if3 .left) f in
+    record { view = Is (serial k); is = formed k; so = so }
 
 pub ready-spec : {M : Type 1} → statement M
 ready-spec =

@@ -18,7 +18,8 @@ returns : tie.Need-returns
 returns c =
     let a = c .before .before .before .before .before .before .before .args in
     let h = subst (λ (m : ℕ). length (a .scratch .now) < m) (c .before .room-of .ensures) (c .if1 .taken) in
-    record { view = Malformed; is = λ l. absurd (omega (arith, h, l)); so = refused _ _ _ _ _ _ ShortOutput (short-scratch _ _ _ _ _ h); scratch = kept-short _ _ h }
+    let so = refused _ _ _ _ _ _ ShortOutput (short-scratch _ _ _ _ _ h) in
+    record { view = Malformed; is = λ l. absurd (omega (arith, h, l)); so = so; scratch = kept-short _ _ h }
 
 book-card-requires : tie.Need-book-card-requires
 book-card-requires c κs = search needs
@@ -26,7 +27,8 @@ book-card-requires c κs = search needs
 clear-requires : tie.Need-clear-requires
 clear-requires c κs =
     let e = c .before .before .before .before .before .before .before .before in
-    (omega (arith, e .if1 .left), omega (arith, e .before .room-of .ensures, room-small (e .before .before .before .before .before .before .before .args .track)))
+    let k = e .before .before .before .before .before .before .before .args .track in
+    (omega (arith, e .if1 .left), omega (arith, e .before .room-of .ensures, room-small k))
 
 same-length : tie.Need-same-length
 same-length c = search needs
@@ -40,7 +42,8 @@ returns-2 c =
     let b = k .before .before .before .before .before .before in
     let e = b .before .before .before in
     let w = b .book-card .ensures .0 in
-    record { view = w .view; is = λ _. w .is; so = w .so; scratch = cleared _ _ _ _ _ (e .before .room-of .ensures) (e .if1 .left) (b .book-card .ensures .1) (k .clear .ensures) }
+    let left = cleared _ _ _ _ _ (e .before .room-of .ensures) (e .if1 .left) (b .book-card .ensures .1) (k .clear .ensures) in
+    record { view = w .view; is = λ _. w .is; so = w .so; scratch = left }
 
 pub swipe-on-spec : {M : Type 1} → statement M
 swipe-on-spec =

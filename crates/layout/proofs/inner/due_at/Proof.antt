@@ -21,7 +21,9 @@ mark-of-requires : tie.Need-mark-of-requires
 mark-of-requires c κs = search needs
 
 returns : tie.Need-returns
-returns c test n e = let m = c .before in field-missing (start m .args .track) test n _ _ (sym (m .before .byte-at .ensures) ∙ c .if1 .taken ∙ m .mark-of .ensures)
+returns c test n e =
+    let m = c .before in
+    field-missing (start m .args .track) test n _ _ (sym (m .before .byte-at .ensures) ∙ c .if1 .taken ∙ m .mark-of .ensures)
 
 returns-2 : tie.Need-returns-2
 returns-2 c test n e = field-there (start (c .before .before) .args .track) test n _ _ (unmarked (c .before)) true (sym e ∙ c .if2 .taken)

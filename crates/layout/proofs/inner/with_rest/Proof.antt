@@ -12,7 +12,9 @@ abbrev start : tie.After-all-allowed → tie.Start
 start c = c .before .before .before
 
 -- what the test of the rest says
-told : (c : tie.After-all-allowed) → let a = start c .args in every (allowed (a .track)) (take (length (a .chars .now)) (drop (a .rest) (a .chars .now))) ≡ c .all-allowed .result
+told : (c : tie.After-all-allowed) →
+    let a = start c .args in
+    every (allowed (a .track)) (take (length (a .chars .now)) (drop (a .rest) (a .chars .now))) ≡ c .all-allowed .result
 told c = let a = start c .args in ap (every (allowed (a .track))) (sym (c .before .piece .ensures .bytes)) ∙ sym (c .all-allowed .ensures)
 
 piece-requires : tie.Need-piece-requires
