@@ -18,8 +18,8 @@ use Rattle.reasons.proofs.Laws.{gives-refuses, refuses-one, passed, stopped, we
 use Rattle.pan.specs.Pan.{panLength}
 use Rattle.layout.specs.Layout.{allowed, isExpiry, isService, lead, markAt, fieldRule, past, Places, restRule, serviceRule, expiryRule, layoutRule, said, CutOf, fieldCut, panCut, expiryCut, serviceCut, restCut}
 use Rattle.layout.specs.Grammar.{Optional, absent, present, written, Passes, Pieces, textOf, Formed, placed, placesOf, fieldIn, piecesAt}
-use Rattle.layout.specs.declared.inner.Track.{Track}
-use Rattle.layout.specs.declared.inner.Track.the-variants.{Two}
+use Rattle.layout.specs.declared.Track.{Track}
+use Rattle.layout.specs.declared.Track.the-variants.{Two}
 use Rattle.layout.specs.declared.Field.{Field}
 use Rattle.layout.specs.declared.Field.the-variants.{Absent, At}
 use Rattle.layout.specs.declared.Division.{Division}

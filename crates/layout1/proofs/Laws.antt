@@ -19,7 +19,7 @@ use Rattle.pan.specs.Pan.{panLength}
 use Rattle.layout.specs.Layout.{isNamed, isExpiry, isService, lead, markAt, past, expiryRule, CutOf, fieldCut}
 use Rattle.layout.specs.Layout as fields
 use Rattle.layout.specs.Grammar.{Optional, written, placed, fieldIn}
-use Rattle.layout.specs.declared.inner.Track.the-variants.{One}
+use Rattle.layout.specs.declared.Track.the-variants.{One}
 use Rattle.layout.proofs.Forms.{present-byte, lead-pass, expiry-is, service-is, past-written}
 use Rattle.layout.proofs.Laws.{Tail, tail-there, field-fits, stops-six, then-six, expiry-six, refused-exactly}
 use Rattle.layout1.specs.Layout1.{Places, nameLength, fieldsRule, nameRule, layout1Rule, said, panCut, nameCut, expiryCut, serviceCut, restCut}

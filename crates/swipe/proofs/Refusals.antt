@@ -13,7 +13,7 @@ use Rattle.ranges.specs.Ranges.{tableOk, placeRule, labelRule}
 use Rattle.ranges.proofs.Laws.{NoRange, place-refuses}
 use Rattle.bits.specs.Reading.{Track as Read, readRule}
 use Rattle.layout.specs.Layout.{Cut}
-use Rattle.layout.specs.declared.inner.Track.{Track}
+use Rattle.layout.specs.declared.Track.{Track}
 use Rattle.slots.specs.Views.{formed, newest}
 use Rattle.slots.specs.declared.Newest.{Newest}
 use Rattle.journal.specs.Rules.{full, bookRule}
