@@ -203,11 +203,11 @@ module _ (s : List ℕ) (d : Places) (accepted : layoutRule s ≡ gives d) where
   service-fits = field-fits s 3 isService service-is (d .service) (accepted-form s d accepted .formed .service-right)
 
 -- and near its front
-written-size : (n : ℕ) (test : List ℕ → Bool) → Digits n test → (o : Optional) → Passes test o → length (written Two o) ≤ n
-written-size n test k absent h = k .some
-written-size n test k (present t) h = omega (arith, k .size t h)
+pub written-size : (k : Track) (n : ℕ) (test : List ℕ → Bool) → Digits n test → (o : Optional) → Passes test o → length (written k o) ≤ n
+written-size k n test d absent h = d .some
+written-size k n test d (present t) h = omega (arith, d .size t h)
 
-placed-start : (n q : ℕ) (o : Optional) → fieldCut n (placed q o) .start ≤ q
+pub placed-start : (n q : ℕ) (o : Optional) → fieldCut n (placed q o) .start ≤ q
 placed-start n q absent = omega arith
 placed-start n q (present t) = omega arith
 
@@ -217,8 +217,8 @@ places-small s d accepted =
     let a = accepted-form s d accepted in
     let g = piecesAt s d in
     let p : length (g .pan) ≤ 19 = inside-is 13 19 _ (a .formed .pan-length) .1 in
-    let e = written-size 4 isExpiry expiry-is (g .expiry) (a .formed .expiry-right) in
-    let v = written-size 3 isService service-is (g .service) (a .formed .service-right) in
+    let e = written-size Two 4 isExpiry expiry-is (g .expiry) (a .formed .expiry-right) in
+    let v = written-size Two 3 isService service-is (g .service) (a .formed .service-right) in
     subst (λ (x : Places). (x .pan ≤ 19) × (fieldCut 4 (x .expiry) .start ≤ 20) × (fieldCut 3 (x .service) .start ≤ 24) × (x .rest ≤ 27)) (a .places) (
       p,
       omega (arith, p, placed-start 4 (length (g .pan) + 1) (g .expiry)),

@@ -11,7 +11,7 @@ use lib.Seq.{drop-cons, drop-drop, length-take-le}
 use borrow.Author.Tests.{eqb-true}
 use denote.Ref.{RefT}
 use Rattle.text.specs.Bytes.{within, isDigit, every, allDigits}
-use Rattle.text.proofs.Tests.{both-true}
+use Rattle.text.proofs.Tests.{inside-is, both-true}
 use Rattle.text.proofs.Parts.{Same, part-one}
 use Rattle.reasons.specs.Reasons.{numberOf, numberIn, gives, refuses}
 use Rattle.reasons.proofs.Laws.{gives-refuses, refuses-one, passed, went-on}
@@ -21,9 +21,9 @@ use Rattle.layout.specs.Layout as fields
 use Rattle.layout.specs.Grammar.{Optional, written, placed, fieldIn}
 use Rattle.layout.specs.declared.Track.the-variants.{One}
 use Rattle.layout.proofs.Forms.{present-byte, lead-pass, expiry-is, service-is, past-written}
-use Rattle.layout.proofs.Laws.{Tail, tail-there, field-fits, stops-six, then-six, expiry-six, refused-exactly}
+use Rattle.layout.proofs.Laws.{Tail, tail-there, field-fits, written-size, placed-start, stops-six, then-six, expiry-six, refused-exactly}
 use Rattle.layout1.specs.Layout1.{Places, nameLength, fieldsRule, nameRule, layout1Rule, said, panCut, nameCut, expiryCut, serviceCut, restCut}
-use Rattle.layout1.specs.Grammar1.{Pieces, textOf, Formed, placesOf, piecesAt}
+use Rattle.layout1.specs.Grammar1.{Pieces, textOf, Formed, expiryAt, placesOf, piecesAt}
 use Rattle.layout1.specs.declared.Division.{Division}
 use Rattle.layout1.specs.declared.Division.the-variants.{Fields, Refused}
 use Rattle.layout1.proofs.Forms.{form-accepted}
@@ -168,6 +168,27 @@ module _ (s : List ℕ) (d : Places) (accepted : layout1Rule s ≡ gives d) wher
 
   pub service-fits : fieldCut 3 (d .service) .start + fieldCut 3 (d .service) .size ≤ length s
   service-fits = field-fits s 3 isService service-is (d .service) (accepted-form s d accepted .formed .service-right)
+
+-- and near its front
+pub places-small : (s : List ℕ) (d : Places) → layout1Rule s ≡ gives d
+    → (d .pan ≤ 19) × (d .name ≤ 26) × (fieldCut 4 (d .expiry) .start ≤ 48) × (fieldCut 3 (d .service) .start ≤ 52) × (d .rest ≤ 55)
+places-small s d accepted =
+    let a = accepted-form s d accepted in
+    let g = piecesAt s d in
+    let p : length (g .pan) ≤ 19 = inside-is 13 19 _ (a .formed .pan-length) .1 in
+    let n : length (g .name) ≤ 26 = inside-is 2 26 _ (a .formed .name-length) .1 in
+    let e = written-size One 4 isExpiry expiry-is (g .expiry) (a .formed .expiry-right) in
+    let v = written-size One 3 isService service-is (g .service) (a .formed .service-right) in
+    subst
+    (λ (x : Places).
+    (x .pan ≤ 19) × (x .name ≤ 26) × (fieldCut 4 (x .expiry) .start ≤ 48) × (fieldCut 3 (x .service) .start ≤ 52) × (x .rest ≤ 55))
+    (a .places) (
+      p,
+      n,
+      omega (arith, p, n, placed-start 4 (expiryAt g) (g .expiry)),
+      omega (arith, p, n, e, placed-start 3 (expiryAt g + length (written One (g .expiry))) (g .service)),
+      omega (arith, p, n, e, v),
+    )
 
 -- ---- anything else is 6
 
