@@ -114,13 +114,13 @@ pub extern "C" fn gw_layout1_read(
             name: n,
             expiry: e,
             service: v,
-            rest: r,
+            rest: d,
         } => {
             *pan = p as u32;
             *name = n as u32;
             *expiry = place(e);
             *service = place(v);
-            *rest = r as u32;
+            *rest = d as u32;
             0
         }
         layout1::Division::Refused(why) => reasons::number(why),
