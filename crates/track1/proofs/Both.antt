@@ -1,11 +1,11 @@
 -- Seven bits may read both ways round, where five can't: forward is taken. Assumes nothing.
-use mathlib.Core.Path.{_≡_, refl}
+use mathlib.Core.Path.{_≡_, refl, ap₂}
 use mathlib.Core.Bool.{Bool, true, false}
 use mathlib.Core.List.{List, [], _∷_, reverse}
 use Rattle.text.specs.Bytes.{bytesOf}
 use Rattle.reasons.specs.Reasons.{gives}
 use Rattle.bits.specs.Stream.{number, ones}
-use Rattle.bits.specs.Reading.{next, allZero, finish, body, skip, begins, readOne}
+use Rattle.bits.specs.Reading.{next, allZero, finish, body, skip, begins, readOne, forwardOf, choose, readEither}
 use Rattle.track1.specs.Track1.{track1}
 
 -- a stream that reads both ways round: `%\ W?` and its LRC
@@ -25,3 +25,7 @@ both-forward = refl
 both-reversed : readOne track1 (reverse both) ≡ gives (bytesOf "\\V!")
 unfolding both readOne begins skip body finish allZero next ones number
 both-reversed = refl
+
+both-taken : readEither track1 both ≡ gives (forwardOf (bytesOf "\\ W"))
+unfolding readEither
+both-taken = ap₂ choose both-forward both-reversed

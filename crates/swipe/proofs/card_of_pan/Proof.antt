@@ -60,8 +60,8 @@ enum-told c = search needs
 label-tested-requires : tie.Need-label-tested-requires
 label-tested-requires c κs =
     let s = start (c .before .before) in
-    let e = sym (part-is (s .args .chars .now) (s .args .at) (s .args .n)) in
-    (s .pre .0, s .pre .1, ap (λ (p : List ℕ). panLength (length p)) (sym e) ∙ s .pre .2 .count, ap allDigits (sym e) ∙ s .pre .2 .digits)
+    let e = part-is (s .args .chars .now) (s .args .at) (s .args .n) in
+    (s .pre .0, s .pre .1, ap (λ (p : List ℕ). panLength (length p)) e ∙ s .pre .2 .count, ap allDigits e ∙ s .pre .2 .digits)
 
 enum-known-r-2 : tie.Need-enum-known-r-2
 enum-known-r-2 c = search needs
