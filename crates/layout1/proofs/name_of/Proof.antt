@@ -24,7 +24,7 @@ add-cut : tie.Need-add-cut
 add-cut c = omega (arith, fits c)
 
 cut-requires : tie.Need-cut-requires
-cut-requires c κs = fits c
+cut-requires c κs = omega (arith, fits c)
 
 enum-told : tie.Need-enum-told
 enum-told c = search needs
