@@ -4,13 +4,14 @@ use Prim.Native.Nat.{ℕ}
 use mathlib.Core.Path.{_≡_, sym, ap, _∙_}
 use mathlib.Core.List.{List}
 use Rattle.reasons.specs.Reasons.{Outcome}
+use Rattle.bits.specs.Reading.{Format}
 use Rattle.slots.proofs.Views.{one-view}
 use Rattle.journal.proofs.Laws.{one-booking, one-release, one-finding, one-telling}
 use Rattle.journal.proofs.Surveys.{one-survey}
 use Rattle.swipe.specs.Swipe.{Given}
 use Rattle.swipe.proofs.Laws as swipe
 use Rattle.goltwarden.specs.Hands.{Hands, HandsOn}
-use Rattle.goltwarden.specs.Calls.{VersionIs, LuhnTests, LuhnMakes, PanMasks, RangeFinds, Track2Reads, LayoutReads, IbanTests, IbanMakes, CreditorTests, CreditorMakes, JournalBooks, JournalReleases, JournalShows, JournalTells, JournalWalks, WalkStarts, WalkSteps, JournalSurveys, Swipes}
+use Rattle.goltwarden.specs.Calls.{VersionIs, LuhnTests, LuhnMakes, PanMasks, RangeFinds, TrackReads, LayoutReads, Layout1Reads, IbanTests, IbanMakes, CreditorTests, CreditorMakes, JournalBooks, JournalReleases, JournalShows, JournalTells, JournalWalks, WalkStarts, WalkSteps, JournalSurveys, Swipes}
 use Rattle.goltwarden.proofs.Handed.{outcome-is}
 
 -- ---- the shapes
@@ -52,15 +53,20 @@ pub range-find-one : (site acquirer pan : List ℕ) (x : ℕ × ℕ) (r q : ℕ)
     → RangeFinds site acquirer pan x r y → RangeFinds site acquirer pan x q z → (r ≡ q) × (y ≡ z)
 range-find-one site acquirer pan x r q y z f g = hands-one f g
 
--- gw_track2_read
-pub track2-read-one : (s : List ℕ) (bits : ℕ) (out : List ℕ) (x : ℕ × ℕ) (r q : ℕ) (y z : ℕ × ℕ) (k l : List ℕ)
-    → Track2Reads s bits out x r y k → Track2Reads s bits out x q z l → (r ≡ q) × (y ≡ z) × (k ≡ l)
-track2-read-one s bits out x r q y z k l f g = let h = hands-one (f .0) (g .0) in (h .0, h .1, f .1 ∙ sym (g .1))
+-- gw_track2_read and gw_track1_read
+pub track-read-one : (a : Format) (s : List ℕ) (bits : ℕ) (out : List ℕ) (x : ℕ × ℕ) (r q : ℕ) (y z : ℕ × ℕ) (k l : List ℕ)
+    → TrackReads a s bits out x r y k → TrackReads a s bits out x q z l → (r ≡ q) × (y ≡ z) × (k ≡ l)
+track-read-one a s bits out x r q y z k l f g = let h = hands-one (f .0) (g .0) in (h .0, h .1, f .1 ∙ sym (g .1))
 
 -- gw_layout_read
 pub layout-read-one : (chars : List ℕ) (x : ℕ × ℕ × ℕ × ℕ) (r q : ℕ) (y z : ℕ × ℕ × ℕ × ℕ)
     → LayoutReads chars x r y → LayoutReads chars x q z → (r ≡ q) × (y ≡ z)
 layout-read-one chars x r q y z f g = hands-one f g
+
+-- gw_layout1_read
+pub layout1-read-one : (chars : List ℕ) (x : ℕ × ℕ × ℕ × ℕ × ℕ) (r q : ℕ) (y z : ℕ × ℕ × ℕ × ℕ × ℕ)
+    → Layout1Reads chars x r y → Layout1Reads chars x q z → (r ≡ q) × (y ≡ z)
+layout1-read-one chars x r q y z f g = hands-one f g
 
 -- gw_iban_test
 pub iban-test-one : (text : List ℕ) (r q : ℕ) → IbanTests text r → IbanTests text q → r ≡ q
@@ -117,7 +123,7 @@ pub journal-survey-one : (j out : List ℕ) (x r q y z : ℕ) (k l : List ℕ)
     → JournalSurveys j out x r y k → JournalSurveys j out x q z l → (r ≡ q) × (y ≡ z) × (k ≡ l)
 journal-survey-one j out x r q y z k l f g = hands-on-bytes f g (one-survey j out _ _ k l (f .allowed) (g .allowed))
 
--- gw_swipe
+-- gw_swipe and gw_swipe1
 pub swipe-one : (g : Given) (amount clock : ℕ) (t j : List ℕ) (x r q y z : ℕ) (u v k l : List ℕ)
     → Swipes g amount clock t j x r y u k → Swipes g amount clock t j x q z v l → (r ≡ q) × (y ≡ z) × (u ≡ v) × (k ≡ l)
 swipe-one g amount clock t j x r q y z u v k l f h =

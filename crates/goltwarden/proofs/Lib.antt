@@ -1,4 +1,5 @@
 pub mod Handed
+pub mod Readings
 pub mod Walked
 pub mod Laws
 pub mod Programs

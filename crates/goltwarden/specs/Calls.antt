@@ -10,19 +10,20 @@ use Rattle.ranges.specs.Ranges.{rangeRule}
 use Rattle.creditor.specs.Creditor as creditor
 use Rattle.iban.specs.Iban as iban
 use Rattle.bits.specs.Stream.{bitN}
-use Rattle.track2.specs.Track2.{track2Rule, track2Bytes}
+use Rattle.bits.specs.Reading.{Format, readRule, readBytes}
 use Rattle.layout.specs.Layout.{layoutRule}
+use Rattle.layout1.specs.Layout1.{layout1Rule}
 use Rattle.slots.specs.Views.{Seen}
 use Rattle.journal.specs.Rules.{Books, Releases, Finds, TellsOf, saidBooked, saidReleased, saidShown, saidTold}
 use Rattle.journal.specs.Survey.{Surveys, saidSurveyed}
 use Rattle.walker.specs.Steps.{walkRule, startRule, stepRule}
 use Rattle.swipe.specs.Swipe.{Given, saidSwiped}
 use Rattle.swipe.specs.Swipe as swipe
-use Rattle.goltwarden.specs.Values.{tableOf, offsetOf, countsOf, startsOf}
+use Rattle.goltwarden.specs.Values.{tableOf, offsetOf, countsOf, startsOf, starts1Of}
 use Rattle.goltwarden.specs.Hands.{Answers, Hands, HandsOn}
 
 abbrev pub VersionIs : ℕ → Type 0
-VersionIs r = r ≡ 2
+VersionIs r = r ≡ 3
 
 -- ---- Luhn
 
@@ -42,11 +43,15 @@ RangeFinds site acquirer pan x r y = Hands (rangeRule site acquirer pan) x (λ p
 
 -- ---- the stripe
 
-abbrev pub Track2Reads : List ℕ → ℕ → List ℕ → ℕ × ℕ → ℕ → ℕ × ℕ → List ℕ → Type 0
-Track2Reads s bits out x r y k = Hands (track2Rule s bits (length out)) x countsOf r y × (k ≡ track2Bytes s bits out)
+-- of the track with this format
+abbrev pub TrackReads : Format → List ℕ → ℕ → List ℕ → ℕ × ℕ → ℕ → ℕ × ℕ → List ℕ → Type 0
+TrackReads f s bits out x r y k = Hands (readRule f s bits (length out)) x countsOf r y × (k ≡ readBytes f s bits out)
 
 abbrev pub LayoutReads : List ℕ → ℕ × ℕ × ℕ × ℕ → ℕ → ℕ × ℕ × ℕ × ℕ → Type 0
 LayoutReads chars x r y = Hands (layoutRule chars) x startsOf r y
+
+abbrev pub Layout1Reads : List ℕ → ℕ × ℕ × ℕ × ℕ × ℕ → ℕ → ℕ × ℕ × ℕ × ℕ × ℕ → Type 0
+Layout1Reads chars x r y = Hands (layout1Rule chars) x starts1Of r y
 
 -- ---- check pairs
 
@@ -88,7 +93,7 @@ WalkSteps j serial x r y = Hands (stepRule j serial) x (λ v. v) r y
 abbrev pub JournalSurveys : List ℕ → List ℕ → ℕ → ℕ → ℕ → List ℕ → Type 0
 JournalSurveys j out x r y k = HandsOn (λ q. Surveys j out q k) saidSurveyed x bitN r y
 
--- ---- the swipe: u is the scratch, lent as t, and k the journal, lent as j
+-- ---- the swipes, of the track that is given: u is the scratch, lent as t, and k the journal, lent as j
 
 abbrev pub Swipes : Given → ℕ → ℕ → List ℕ → List ℕ → ℕ → ℕ → ℕ → List ℕ → List ℕ → Type 0
 Swipes g amount clock t j x r y u k = HandsOn (λ q. swipe.Swipes g amount clock t j q u k) saidSwiped x (λ v. v) r y

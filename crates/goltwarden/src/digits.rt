@@ -7,7 +7,7 @@ ghost use Rattle.goltwarden.specs.Calls.{VersionIs, LuhnTests, LuhnMakes
 pub extern "C" fn gw_version() -> u32
     ensures { λ r. ⌜ VersionIs r ⌝ }
 {
-    2
+    3
 }
 
 #[no_mangle]

@@ -1,23 +1,22 @@
-// The stripe: gw_track2_read, gw_layout_read.
+// The stripe: gw_track2_read, gw_layout_read, gw_track1_read, gw_layout1_read.
 use bits::Read;
-use layout::Division;
 use layout::Field;
 ghost use mathlib.Core.Path.{_≡_};
 ghost use Prim.Native.Nat.{_<_};
+ghost use Rattle.bits.specs.Reading.{said};
+ghost use Rattle.track2.specs.Track2.{track2};
+ghost use Rattle.track1.specs.Track1.{track1};
 ghost use Rattle.layout.specs.Layout.{fieldCut};
-ghost use Rattle.goltwarden.specs.Calls.{Track2Reads, LayoutReads};
+ghost use Rattle.goltwarden.specs.Values.{countsTold, charsIn};
+ghost use Rattle.goltwarden.specs.Hands.{Hands};
+ghost use Rattle.goltwarden.specs.Calls.{TrackReads, LayoutReads, Layout1Reads};
 
-#[no_mangle]
-pub extern "C" fn gw_track2_read(
-    stream: &[u8],
-    bits: u64,
-    out: &mut [u8],
-    count: &mut u32,
-    reversed: &mut u32,
-) -> u32
-    ensures { λ r. ⌜ Track2Reads (now (stream .entry)) bits (now (out .entry)) (now (count .entry), now (reversed .entry)) r (now (count .exit), now (reversed .exit)) (now (out .exit)) ⌝ }
+// Hands over what a reading answers: how many characters it has, and whether it was read reversed.
+fn hand_over(read: Read, count: &mut u32, reversed: &mut u32) -> u32
+    requires { ⌜ charsIn read < 100 ⌝ }
+    ensures { λ r. ⌜ Hands (said read) (now (count .entry), now (reversed .entry)) countsTold r (now (count .exit), now (reversed .exit)) ⌝ }
 {
-    match track2::read(stream, bits, out) {
+    match read {
         Read::Forward(n) => {
             *count = n as u32;
             *reversed = 0;
@@ -30,6 +29,32 @@ pub extern "C" fn gw_track2_read(
         }
         Read::Refused(why) => reasons::number(why),
     }
+}
+
+#[no_mangle]
+pub extern "C" fn gw_track2_read(
+    stream: &[u8],
+    bits: u64,
+    out: &mut [u8],
+    count: &mut u32,
+    reversed: &mut u32,
+) -> u32
+    ensures { λ r. ⌜ TrackReads track2 (now (stream .entry)) bits (now (out .entry)) (now (count .entry), now (reversed .entry)) r (now (count .exit), now (reversed .exit)) (now (out .exit)) ⌝ }
+{
+    hand_over(track2::read(stream, bits, out), count, reversed)
+}
+
+#[no_mangle]
+pub extern "C" fn gw_track1_read(
+    stream: &[u8],
+    bits: u64,
+    out: &mut [u8],
+    count: &mut u32,
+    reversed: &mut u32,
+) -> u32
+    ensures { λ r. ⌜ TrackReads track1 (now (stream .entry)) bits (now (out .entry)) (now (count .entry), now (reversed .entry)) r (now (count .exit), now (reversed .exit)) (now (out .exit)) ⌝ }
+{
+    hand_over(track1::read(stream, bits, out), count, reversed)
 }
 
 // Where a field stands, 0 for an absent one.
@@ -54,7 +79,7 @@ pub extern "C" fn gw_layout_read(
     ensures { λ r. ⌜ LayoutReads (now (chars .entry)) (now (pan .entry), now (expiry .entry), now (service .entry), now (rest .entry)) r (now (pan .exit), now (expiry .exit), now (service .exit), now (rest .exit)) ⌝ }
 {
     match layout::divide(chars) {
-        Division::Fields {
+        layout::Division::Fields {
             pan: p,
             expiry: e,
             service: v,
@@ -66,6 +91,38 @@ pub extern "C" fn gw_layout_read(
             *rest = r as u32;
             0
         }
-        Division::Refused(why) => reasons::number(why),
+        layout::Division::Refused(why) => reasons::number(why),
+    }
+}
+
+#[no_mangle]
+pub extern "C" fn gw_layout1_read(
+    chars: &[u8],
+    pan: &mut u32,
+    name: &mut u32,
+    expiry: &mut u32,
+    service: &mut u32,
+    rest: &mut u32,
+) -> u32
+    ensures { λ r. ⌜ Layout1Reads (now (chars .entry))
+        (now (pan .entry), now (name .entry), now (expiry .entry), now (service .entry), now (rest .entry)) r
+        (now (pan .exit), now (name .exit), now (expiry .exit), now (service .exit), now (rest .exit)) ⌝ }
+{
+    match layout1::divide(chars) {
+        layout1::Division::Fields {
+            pan: p,
+            name: n,
+            expiry: e,
+            service: v,
+            rest: r,
+        } => {
+            *pan = p as u32;
+            *name = n as u32;
+            *expiry = place(e);
+            *service = place(v);
+            *rest = r as u32;
+            0
+        }
+        layout1::Division::Refused(why) => reasons::number(why),
     }
 }

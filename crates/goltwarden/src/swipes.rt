@@ -1,10 +1,13 @@
-// The swipe: gw_swipe.
+// The swipes: gw_swipe, gw_swipe1.
+use layout::Track;
 use swipe::Swiped;
-ghost use Rattle.swipe.specs.Swipe.{given2};
+ghost use Rattle.layout.specs.declared.Track.the-variants.{Two, One};
+ghost use Rattle.swipe.specs.Swipe.{given};
 ghost use Rattle.goltwarden.specs.Calls.{Swipes};
 
-#[no_mangle]
-pub extern "C" fn gw_swipe(
+// A swipe of this track, its serial handed over.
+fn swipe_on(
+    track: Track,
     stream: &[u8],
     bits: u64,
     site: &[u8],
@@ -15,9 +18,11 @@ pub extern "C" fn gw_swipe(
     journal: &mut [u8],
     serial: &mut u32,
 ) -> u32
-    ensures { λ r. ⌜ Swipes (given2 (now (stream .entry)) bits (now (site .entry)) (now (acquirer .entry))) amount clock (now (scratch .entry)) (now (journal .entry)) (now (serial .entry)) r (now (serial .exit)) (now (scratch .exit)) (now (journal .exit)) ⌝ }
+    ensures { λ r. ⌜ Swipes (given track (now (stream .entry)) bits (now (site .entry)) (now (acquirer .entry))) amount clock
+        (now (scratch .entry)) (now (journal .entry)) (now (serial .entry)) r (now (serial .exit)) (now (scratch .exit)) (now (journal .exit)) ⌝ }
 {
     match swipe::swipe(
+        track,
         stream,
         bits,
         site,
@@ -33,4 +38,62 @@ pub extern "C" fn gw_swipe(
         }
         Swiped::Refused(why) => reasons::number(why),
     }
+}
+
+#[no_mangle]
+pub extern "C" fn gw_swipe(
+    stream: &[u8],
+    bits: u64,
+    site: &[u8],
+    acquirer: &[u8],
+    amount: u32,
+    clock: u32,
+    scratch: &mut [u8],
+    journal: &mut [u8],
+    serial: &mut u32,
+) -> u32
+    ensures { λ r. ⌜ Swipes (given Two (now (stream .entry)) bits (now (site .entry)) (now (acquirer .entry))) amount clock
+        (now (scratch .entry)) (now (journal .entry)) (now (serial .entry)) r (now (serial .exit)) (now (scratch .exit)) (now (journal .exit)) ⌝ }
+{
+    swipe_on(
+        Track::Two,
+        stream,
+        bits,
+        site,
+        acquirer,
+        amount,
+        clock,
+        scratch,
+        journal,
+        serial,
+    )
+}
+
+#[no_mangle]
+pub extern "C" fn gw_swipe1(
+    stream: &[u8],
+    bits: u64,
+    site: &[u8],
+    acquirer: &[u8],
+    amount: u32,
+    clock: u32,
+    scratch: &mut [u8],
+    journal: &mut [u8],
+    serial: &mut u32,
+) -> u32
+    ensures { λ r. ⌜ Swipes (given One (now (stream .entry)) bits (now (site .entry)) (now (acquirer .entry))) amount clock
+        (now (scratch .entry)) (now (journal .entry)) (now (serial .entry)) r (now (serial .exit)) (now (scratch .exit)) (now (journal .exit)) ⌝ }
+{
+    swipe_on(
+        Track::One,
+        stream,
+        bits,
+        site,
+        acquirer,
+        amount,
+        clock,
+        scratch,
+        journal,
+        serial,
+    )
 }

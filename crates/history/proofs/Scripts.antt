@@ -27,7 +27,9 @@ use Rattle.journal.specs.declared.Booked.the-variants as booking
 use Rattle.journal.specs.declared.Released.{Released}
 use Rattle.journal.specs.declared.Released.the-variants as releasing
 use Rattle.journal.proofs.Lists.{held-at-most}
-use Rattle.swipe.specs.Swipe.{Given, given2, Payer, Swipes}
+use Rattle.layout.specs.declared.Track.{Track}
+use Rattle.layout.specs.declared.Track.the-variants.{Two, One}
+use Rattle.swipe.specs.Swipe.{Given, Payer, Swipes}
 use Rattle.swipe.specs.declared.Swiped.{Swiped}
 use Rattle.swipe.specs.declared.Swiped.the-variants as swiping
 use Rattle.swipe.proofs.Laws.{ComesTo, refusal, one-booking, swipe-comes-to}
@@ -35,7 +37,7 @@ use Rattle.journal.proofs.Calls.{sum-append}
 use Rattle.history.specs.declared.Totals.{Totals}
 use Rattle.history.specs.declared.Replayed.the-variants.{Played, NotWhole, TooLong}
 use Rattle.history.specs.History.{Call, book, swipe, release, aside, AnswerTo, Does, Done, Payment, takings, Effect, booked-one, released-to, nothing, ofSwipe, effect, effectOf, bookedIn, countIn, sumIn, booked, freedCount, freedSum, recordOf, Run, no-more, next}
-use Rattle.history.specs.Script.{kindAt, panAt, labelAt, amountAt, clockAt, serialAt, bitsAt, streamAt, callAt, scratchLeft, Plays, no-record, one-record, refusedIn, skippedIn, refusedCount, skippedCount, TotalsOf, PlaysAll, PlaysOne, Adds, replayRule, Replays, played, not-whole, too-long, Conserved}
+use Rattle.history.specs.Script.{kindAt, panAt, labelAt, amountAt, clockAt, serialAt, bitsAt, streamAt, swipeAt, callAt, scratchLeft, Plays, no-record, one-record, refusedIn, skippedIn, refusedCount, skippedCount, TotalsOf, PlaysAll, PlaysOne, Adds, replayRule, Replays, played, not-whole, too-long, Conserved}
 use Rattle.history.proofs.Account.{Open, account}
 use Rattle.history.proofs.Demand.{sum-records}
 
@@ -202,11 +204,11 @@ same-release clock t j r k e w = subst (λ (x : ℕ). PlaysOne (release x) clock
 
 -- ---- the call of a record
 
-pub pan-is : (s : List ℕ) (at n : ℕ) → n ≡ min (getD s (at + 1) 0) 44 → take (at + 20 + n - (at + 20)) (drop (at + 20) s) ≡ panAt s at
+pub pan-is : (s : List ℕ) (at n : ℕ) → n ≡ min (getD s (at + 1) 0) 108 → take (at + 20 + n - (at + 20)) (drop (at + 20) s) ≡ panAt s at
 pan-is s at n e = let long : at + 20 + n - (at + 20) ≡ n = omega arith in ap (λ (m : ℕ). take m (drop (at + 20) s)) (long ∙ e)
 
-pub stream-is : (s : List ℕ) (at : ℕ) → take (at + 128 - (at + 64)) (drop (at + 64) s) ≡ streamAt s at
-stream-is s at = let long : at + 128 - (at + 64) ≡ 64 = omega arith in ap (λ (m : ℕ). take m (drop (at + 64) s)) long
+pub stream-is : (s : List ℕ) (at : ℕ) → take (at + 128 - (at + 20)) (drop (at + 20) s) ≡ streamAt s at
+stream-is s at = let long : at + 128 - (at + 20) ≡ 108 = omega arith in ap (λ (m : ℕ). take m (drop (at + 20) s)) long
 
 module _ (s site acquirer t : List ℕ) (at : ℕ) where
   pub is-book : kindAt s at ≡ 1 → book (panAt s at) (labelAt s at) (amountAt s at) ≡ callAt s site acquirer t at
@@ -217,14 +219,21 @@ module _ (s site acquirer t : List ℕ) (at : ℕ) where
   unfolding callAt
   is-release e = simp (ne-eqb (kindAt s at) 1 (λ z. omega arith), eq-eqb (kindAt s at) 2 e)
 
-  pub is-swipe : kindAt s at ≡ 3
-      → swipe (given2 (streamAt s at) (bitsAt s at) site acquirer) (amountAt s at) t ≡ callAt s site acquirer t at
-  unfolding callAt
-  is-swipe e = simp (ne-eqb (kindAt s at) 1 (λ z. omega arith), ne-eqb (kindAt s at) 2 (λ z. omega arith), eq-eqb (kindAt s at) 3 e)
+  -- the kind of a record that swipes a track
+  abbrev kindOf : Track → ℕ
+  kindOf Two = 3
+  kindOf One = 4
 
-  pub is-none : (kindAt s at ≡ 1 → ⊥) → (kindAt s at ≡ 2 → ⊥) → (kindAt s at ≡ 3 → ⊥) → aside ≡ callAt s site acquirer t at
+  pub is-swipe : (k : Track) → kindAt s at ≡ kindOf k → swipeAt k s site acquirer t at ≡ callAt s site acquirer t at
   unfolding callAt
-  is-none a b c = simp (ne-eqb (kindAt s at) 1 a, ne-eqb (kindAt s at) 2 b, ne-eqb (kindAt s at) 3 c)
+  is-swipe Two e = simp (ne-eqb (kindAt s at) 1 (λ z. omega arith), ne-eqb (kindAt s at) 2 (λ z. omega arith), eq-eqb (kindAt s at) 3 e)
+  is-swipe One e =
+      simp
+      (ne-eqb (kindAt s at) 1 (λ z. omega arith), ne-eqb (kindAt s at) 2 (λ z. omega arith), ne-eqb (kindAt s at) 3 (λ z. omega arith), eq-eqb (kindAt s at) 4 e)
+
+  pub is-none : (kindAt s at ≡ 1 → ⊥) → (kindAt s at ≡ 2 → ⊥) → (kindAt s at ≡ 3 → ⊥) → (kindAt s at ≡ 4 → ⊥) → aside ≡ callAt s site acquirer t at
+  unfolding callAt
+  is-none a b c d = simp (ne-eqb (kindAt s at) 1 a, ne-eqb (kindAt s at) 2 b, ne-eqb (kindAt s at) 3 c, ne-eqb (kindAt s at) 4 d)
 
 pub as-call : {c c' : Call} (clock : ℕ) (t j : List ℕ) (r : Totals) (u k : List ℕ) → c ≡ c' → PlaysOne c clock t j r u k → PlaysOne c' clock t j r u k
 as-call clock t j r u k e w = subst (λ (c : Call). PlaysOne c clock t j r u k) e w

@@ -10,7 +10,9 @@ use Rattle.reasons.specs.Reasons.{Outcome, gives, refuses, demand}
 use Rattle.slots.specs.Journal.{NewestIs}
 use Rattle.slots.specs.declared.Newest.the-variants.{Is}
 use Rattle.journal.specs.Held.{heldList, sumOf}
-use Rattle.swipe.specs.Swipe.{given2}
+use Rattle.layout.specs.declared.Track.{Track}
+use Rattle.layout.specs.declared.Track.the-variants.{Two, One}
+use Rattle.swipe.specs.Swipe.{given}
 use Rattle.history.specs.History.{Call, book, swipe, release, reads, aside, AnswerTo, Does, Done, Effect, booked-one, released-to, nothing, effectOf, booked, takings, freedCount, freedSum}
 use Rattle.history.specs.declared.Totals.{Totals}
 use Rattle.history.specs.declared.Replayed.{Replayed}
@@ -18,8 +20,8 @@ use Rattle.history.specs.declared.Replayed.the-variants.{Played, NotWhol
 
 -- ---- the script
 
--- kind 0 (1 book, 2 release, 3 swipe), PAN length 1, label 2 to 3, amount 4 to 7, clock 8 to 11, serial 12 to 15, bit count 16 to 19,
--- PAN from 20, stream 64 to 127; what a kind has no use for is ignored
+-- kind 0 (1 book, 2 release, 3 swipe of track 2, 4 of track 1), PAN length 1, label 2 to 3, amount 4 to 7, clock 8 to 11, serial 12 to 15,
+-- bit count 16 to 19; 20 to 127 the PAN, from the front, or the stream; what a kind has no use for is ignored
 
 abbrev pub kindAt : List ℕ → ℕ → ℕ
 kindAt s at = getD s at 0
@@ -39,20 +41,25 @@ serialAt s at = u32At s (at + 12)
 abbrev pub bitsAt : List ℕ → ℕ → ℕ
 bitsAt s at = u32At s (at + 16)
 
--- as long as byte 1 says, at most the 44 bytes that there is room for
+-- as long as byte 1 says, at most the 108 bytes that there is room for
 abbrev pub panAt : List ℕ → ℕ → List ℕ
-panAt s at = take (min (getD s (at + 1) 0) 44) (drop (at + 20) s)
+panAt s at = take (min (getD s (at + 1) 0) 108) (drop (at + 20) s)
 
 abbrev pub streamAt : List ℕ → ℕ → List ℕ
-streamAt s at = take 64 (drop (at + 64) s)
+streamAt s at = take 108 (drop (at + 20) s)
 
--- the call in the record at `at`, lent these tables and this scratch; a record of another kind makes none
+-- the swipe in the record at `at`, of this track, lent these tables and this scratch
+abbrev pub swipeAt : Track → List ℕ → List ℕ → List ℕ → List ℕ → ℕ → Call
+swipeAt k s site acquirer scratch at = swipe (given k (streamAt s at) (bitsAt s at) site acquirer) (amountAt s at) scratch
+
+-- the call in the record at `at`; a record of another kind makes none
 unfoldable pub callAt : List ℕ → List ℕ → List ℕ → List ℕ → ℕ → Call
 callAt s site acquirer scratch at =
     cond (eqb (kindAt s at) 1) (book (panAt s at) (labelAt s at) (amountAt s at))
     (cond (eqb (kindAt s at) 2) (release (serialAt s at))
-    (cond (eqb (kindAt s at) 3) (swipe (given2 (streamAt s at) (bitsAt s at) site acquirer) (amountAt s at) scratch)
-    aside))
+    (cond (eqb (kindAt s at) 3) (swipeAt Two s site acquirer scratch at)
+    (cond (eqb (kindAt s at) 4) (swipeAt One s site acquirer scratch at)
+    aside)))
 
 -- "a script too long for its sums is refused by a number of its own", 99; one that is no whole number of records with 6, before that
 unfoldable pub replayRule : List ℕ → Outcome (Unit {0})

@@ -1,6 +1,7 @@
 // Demand 3 over any sequence of calls: its statement and its proof, and a function that replays a script of calls.
 use journal::Booked;
 use journal::Released;
+use layout::Track;
 use swipe::Swiped;
 ghost use mathlib.Core.Path.{_≡_};
 ghost use mathlib.Core.List.{List};
@@ -8,9 +9,8 @@ ghost use Prim.Native.Nat.{ℕ, min, _+_, _*_, _/_, _%_, _≤_, _<_};
 ghost use lib.ListN.{getD, length};
 ghost use Rattle.slots.specs.Journal.{NewestIs};
 ghost use Rattle.slots.specs.declared.Newest.the-variants.{Is};
-ghost use Rattle.swipe.specs.Swipe.{given2};
-ghost use Rattle.history.specs.History.{book, swipe, release};
-ghost use Rattle.history.specs.Script.{panAt, labelAt, amountAt, clockAt, serialAt, bitsAt, streamAt, callAt, replayRule, PlaysOne, PlaysAll, Adds, Replays, Conserves};
+ghost use Rattle.history.specs.History.{book, release};
+ghost use Rattle.history.specs.Script.{panAt, labelAt, amountAt, clockAt, serialAt, swipeAt, callAt, replayRule, PlaysOne, PlaysAll, Adds, Replays, Conserves};
 
 // What calls came to: the payments booked and their amounts, those released and their amounts as the releases answered, the calls refused, and
 // the records that made no call.
@@ -65,11 +65,11 @@ fn add(t: Totals, u: Totals) -> Totals
 // How many bytes the PAN of the record at `at` has.
 fn pan_length(script: &[u8], at: usize) -> usize
     requires { ⌜ at + 128 ≤ length (now script) ⌝ }
-    ensures { λ r. ⌜ (r ≡ min (getD (now (script .entry)) (at + 1) 0) 44) × (r ≤ 44) ⌝ }
+    ensures { λ r. ⌜ (r ≡ min (getD (now (script .entry)) (at + 1) 0) 108) × (r ≤ 108) ⌝ }
 {
     let n = script[at + 1] as usize;
-    if 44 < n {
-        return 44;
+    if 108 < n {
+        return 108;
     }
     n
 }
@@ -107,6 +107,7 @@ fn play_release(script: &[u8], at: usize, journal: &mut [u8]) -> Totals
 }
 
 fn play_swipe(
+    track: Track,
     script: &[u8],
     at: usize,
     site: &[u8],
@@ -115,13 +116,14 @@ fn play_swipe(
     journal: &mut [u8],
 ) -> Totals
     requires { ⌜ at + 128 ≤ length (now script) ⌝ }
-    ensures { λ r. ⌜ PlaysOne (swipe (given2 (streamAt (now (script .entry)) at) (bitsAt (now (script .entry)) at) (now (site .entry)) (now (acquirer .entry))) (amountAt (now (script .entry)) at) (now (scratch .entry))) (clockAt (now (script .entry)) at) (now (scratch .entry)) (now (journal .entry)) r (now (scratch .exit)) (now (journal .exit)) ⌝ }
+    ensures { λ r. ⌜ PlaysOne (swipeAt track (now (script .entry)) (now (site .entry)) (now (acquirer .entry)) (now (scratch .entry)) at) (clockAt (now (script .entry)) at) (now (scratch .entry)) (now (journal .entry)) r (now (scratch .exit)) (now (journal .exit)) ⌝ }
 {
     let amount = text::u32_at(script, at + 4);
     let clock = text::u32_at(script, at + 8);
     let bits = text::u32_at(script, at + 16);
     match swipe::swipe(
-        &script[at + 64..at + 128],
+        track,
+        &script[at + 20..at + 128],
         bits as u64,
         site,
         acquirer,
@@ -155,7 +157,10 @@ fn play(
         return play_release(script, at, journal);
     }
     if kind == 3 {
-        return play_swipe(script, at, site, acquirer, scratch, journal);
+        return play_swipe(Track::Two, script, at, site, acquirer, scratch, journal);
+    }
+    if kind == 4 {
+        return play_swipe(Track::One, script, at, site, acquirer, scratch, journal);
     }
     counted(0, 0, 0, 1)
 }

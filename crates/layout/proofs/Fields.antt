@@ -15,8 +15,8 @@ use Rattle.text.proofs.Tests.{under, over, inside}
 use Rattle.text.proofs.Numbers.{decimal-turn, decimal-end}
 use Rattle.reasons.specs.Reasons.{gives, refuses, demand, andThen}
 use Rattle.layout.specs.Layout.{mark, allowed, isExpiry, isService, leading, lead, fieldRule, past, Places, restRule, serviceRule, expiryRule, layoutRule, saidDue}
-use Rattle.layout.specs.declared.inner.Track.{Track}
-use Rattle.layout.specs.declared.inner.Track.the-variants.{Two}
+use Rattle.layout.specs.declared.Track.{Track}
+use Rattle.layout.specs.declared.Track.the-variants.{Two}
 use Rattle.layout.specs.declared.Field.{Field}
 use Rattle.layout.specs.declared.Field.the-variants.{Absent, At}
 use Rattle.layout.specs.declared.inner.Due.{Due}

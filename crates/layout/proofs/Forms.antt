@@ -18,8 +18,8 @@ use Rattle.reasons.specs.Reasons.{gives, demand}
 use Rattle.reasons.proofs.Laws.{passed}
 use Rattle.layout.specs.Layout.{mark, isExpiry, isService, leading, markAt, fieldRule, past}
 use Rattle.layout.specs.Grammar.{Optional, absent, present, written, Passes, placed, fieldIn}
-use Rattle.layout.specs.declared.inner.Track.{Track}
-use Rattle.layout.specs.declared.inner.Track.the-variants.{Two, One}
+use Rattle.layout.specs.declared.Track.{Track}
+use Rattle.layout.specs.declared.Track.the-variants.{Two, One}
 use Rattle.layout.specs.declared.Field.{Field}
 use Rattle.layout.specs.declared.Field.the-variants.{Absent, At}
 

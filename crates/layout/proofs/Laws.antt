@@ -18,8 +18,8 @@ use Rattle.reasons.proofs.Laws.{gives-refuses, refuses-one, passed, stopped, we
 use Rattle.pan.specs.Pan.{panLength}
 use Rattle.layout.specs.Layout.{allowed, isExpiry, isService, lead, markAt, fieldRule, past, Places, restRule, serviceRule, expiryRule, layoutRule, said, CutOf, fieldCut, panCut, expiryCut, serviceCut, restCut}
 use Rattle.layout.specs.Grammar.{Optional, absent, present, written, Passes, Pieces, textOf, Formed, placed, placesOf, fieldIn, piecesAt}
-use Rattle.layout.specs.declared.inner.Track.{Track}
-use Rattle.layout.specs.declared.inner.Track.the-variants.{Two}
+use Rattle.layout.specs.declared.Track.{Track}
+use Rattle.layout.specs.declared.Track.the-variants.{Two}
 use Rattle.layout.specs.declared.Field.{Field}
 use Rattle.layout.specs.declared.Field.the-variants.{Absent, At}
 use Rattle.layout.specs.declared.Division.{Division}
@@ -203,11 +203,11 @@ module _ (s : List ℕ) (d : Places) (accepted : layoutRule s ≡ gives d) where
   service-fits = field-fits s 3 isService service-is (d .service) (accepted-form s d accepted .formed .service-right)
 
 -- and near its front
-written-size : (n : ℕ) (test : List ℕ → Bool) → Digits n test → (o : Optional) → Passes test o → length (written Two o) ≤ n
-written-size n test k absent h = k .some
-written-size n test k (present t) h = omega (arith, k .size t h)
+pub written-size : (k : Track) (n : ℕ) (test : List ℕ → Bool) → Digits n test → (o : Optional) → Passes test o → length (written k o) ≤ n
+written-size k n test d absent h = d .some
+written-size k n test d (present t) h = omega (arith, d .size t h)
 
-placed-start : (n q : ℕ) (o : Optional) → fieldCut n (placed q o) .start ≤ q
+pub placed-start : (n q : ℕ) (o : Optional) → fieldCut n (placed q o) .start ≤ q
 placed-start n q absent = omega arith
 placed-start n q (present t) = omega arith
 
@@ -217,8 +217,8 @@ places-small s d accepted =
     let a = accepted-form s d accepted in
     let g = piecesAt s d in
     let p : length (g .pan) ≤ 19 = inside-is 13 19 _ (a .formed .pan-length) .1 in
-    let e = written-size 4 isExpiry expiry-is (g .expiry) (a .formed .expiry-right) in
-    let v = written-size 3 isService service-is (g .service) (a .formed .service-right) in
+    let e = written-size Two 4 isExpiry expiry-is (g .expiry) (a .formed .expiry-right) in
+    let v = written-size Two 3 isService service-is (g .service) (a .formed .service-right) in
     subst (λ (x : Places). (x .pan ≤ 19) × (fieldCut 4 (x .expiry) .start ≤ 20) × (fieldCut 3 (x .service) .start ≤ 24) × (x .rest ≤ 27)) (a .places) (
       p,
       omega (arith, p, placed-start 4 (length (g .pan) + 1) (g .expiry)),
@@ -229,54 +229,63 @@ places-small s d accepted =
 -- ---- "Anything else is 6"
 
 -- each step refuses with 6 alone, and so do steps one after another
-stops-six : {A : Type 0} (t : Bool) (o : Outcome A) (m : ℕ) → (o ≡ refuses m → m ≡ 6) → demand t 6 o ≡ refuses m → m ≡ 6
+pub stops-six : {A : Type 0} (t : Bool) (o : Outcome A) (m : ℕ) → (o ≡ refuses m → m ≡ 6) → demand t 6 o ≡ refuses m → m ≡ 6
 stops-six t o m h e = ⊎-elim (λ x. x .1) (λ x. h (x .1)) (stopped t 6 o m e)
 
-then-six : {A B : Type 0} (o : Outcome A) (f : A → Outcome B) (m : ℕ) → (o ≡ refuses m → m ≡ 6) → ((v : A) → f v ≡ refuses m → m ≡ 6)
+pub then-six : {A B : Type 0} (o : Outcome A) (f : A → Outcome B) (m : ℕ) → (o ≡ refuses m → m ≡ 6) → ((v : A) → f v ≡ refuses m → m ≡ 6)
     → andThen o f ≡ refuses m → m ≡ 6
 then-six o f m h k e = ⊎-elim h (λ x. k (x .0) (x .2)) (went-wrong o f m e)
 
-field-six : (test : List ℕ → Bool) (n : ℕ) (s : List ℕ) (q m : ℕ) → fieldRule test n s q ≡ refuses m → m ≡ 6
-unfolding fieldRule
-field-six test n s q m e = by (equalsAt s q) e
-  where
-    by : (b : Bool) → cond b (gives Absent) (demand (test (take n (drop q s))) 6 (gives (At q))) ≡ refuses m → m ≡ 6
-    by true e = gives-refuses Absent m e
-    by false e = stops-six (test (take n (drop q s))) (gives (At q)) m (gives-refuses (At q) m) e
+module _ (k : Track) (s : List ℕ) (m : ℕ) where
+  field-six : (test : List ℕ → Bool) (n q : ℕ) → fieldRule k test n s q ≡ refuses m → m ≡ 6
+  unfolding fieldRule
+  field-six test n q = by (markAt k s q)
+    where
+      by : (b : Bool) → cond b (gives Absent) (demand (test (take n (drop q s))) 6 (gives (At q))) ≡ refuses m → m ≡ 6
+      by true e = gives-refuses Absent m e
+      by false e = stops-six (test (take n (drop q s))) (gives (At q)) m (gives-refuses (At q) m) e
 
-module _ (s : List ℕ) (m : ℕ) where
-  rest-six : (d : Places) → restRule s d ≡ refuses m → m ≡ 6
+  rest-six : (d : Places) → restRule k s d ≡ refuses m → m ≡ 6
   unfolding restRule
-  rest-six d = stops-six (allDigits (drop (d .rest) s)) (gives d) m (gives-refuses d m)
+  rest-six d = stops-six (every (allowed k) (drop (d .rest) s)) (gives d) m (gives-refuses d m)
 
-  service-six : (p : ℕ) (e : Field) (q : ℕ) → serviceRule s p e q ≡ refuses m → m ≡ 6
+  service-six : (p : ℕ) (e : Field) (q : ℕ) → serviceRule k s p e q ≡ refuses m → m ≡ 6
   unfolding serviceRule
   service-six p e q =
-      then-six (fieldRule isService 3 s q) (λ v. restRule s (record { pan = p; expiry = e; service = v; rest = past 3 q v })) m
-      (field-six isService 3 s q m)
+      then-six (fieldRule k isService 3 s q) (λ v. restRule k s (record { pan = p; expiry = e; service = v; rest = past 3 q v })) m
+      (field-six isService 3 q)
       (λ v. rest-six (record { pan = p; expiry = e; service = v; rest = past 3 q v }))
 
-  expiry-six : (p : ℕ) → expiryRule s p ≡ refuses m → m ≡ 6
+  pub expiry-six : (p q : ℕ) → expiryRule k s p q ≡ refuses m → m ≡ 6
   unfolding expiryRule
-  expiry-six p =
-      then-six (fieldRule isExpiry 4 s (p + 1)) (λ e. serviceRule s p e (past 4 (p + 1) e)) m
-      (field-six isExpiry 4 s (p + 1) m)
-      (λ e. service-six p e (past 4 (p + 1) e))
+  expiry-six p q =
+      then-six (fieldRule k isExpiry 4 s q) (λ e. serviceRule k s p e (past 4 q e)) m
+      (field-six isExpiry 4 q)
+      (λ e. service-six p e (past 4 q e))
 
-  only-six : layoutRule s ≡ refuses m → m ≡ 6
-  unfolding layoutRule
-  only-six = stops-six (panLength (lead s) && equalsAt s (lead s)) (expiryRule s (lead s)) m (expiry-six (lead s))
-
--- a text is refused exactly where no pieces of the form make it up, and then with 6
-pub six-exactly : (s : List ℕ) (n : ℕ) → (layoutRule s ≡ refuses n) ↔ ((n ≡ 6) × ((g : Pieces) → Formed g → textOf g ≡ s → ⊥))
-six-exactly s n = (
-  λ e. (only-six s n e, λ g f h. gives-refuses (placesOf g) n (sym (form-accepted g f) ∙ ap layoutRule h ∙ e)),
-  λ h. by (layoutRule s) refl (h .0) (h .1),
+-- what is refused with 6 alone, and given exactly where pieces of the form make the text up, is refused exactly where none do
+pub refused-exactly : {P A : Type 0} (Makes : P → Type 0) (o : Outcome A) → ((m : ℕ) → o ≡ refuses m → m ≡ 6)
+    → ((g : P) → Makes g → (d : A) × (o ≡ gives d)) → ((d : A) → o ≡ gives d → (g : P) × Makes g)
+    → (n : ℕ) → (o ≡ refuses n) ↔ ((n ≡ 6) × ((g : P) → Makes g → ⊥))
+refused-exactly Makes o six made found n = (
+  λ e. (six n e, λ g h. let d = made g h in gives-refuses (d .0) n (sym (d .1) ∙ e)),
+  λ h. by o refl (h .0) (h .1),
 )
   where
-    by : (o : Outcome Places) → layoutRule s ≡ o → n ≡ 6 → ((g : Pieces) → Formed g → textOf g ≡ s → ⊥) → o ≡ refuses n
-    by (gives d) e h k = let w = accepted-form s d e in absurd (k (piecesAt s d) (w .formed) (w .text))
-    by (refuses m) e h k = ap {B = Outcome Places} refuses (only-six s m e ∙ sym h)
+    by : (p : Outcome _) → o ≡ p → n ≡ 6 → ((g : _) → Makes g → ⊥) → p ≡ refuses n
+    by (gives d) e h k = let g = found d e in absurd (k (g .0) (g .1))
+    by (refuses m) e h k = ap {B = Outcome _} refuses (six m e ∙ sym h)
+
+only-six : (s : List ℕ) (m : ℕ) → layoutRule s ≡ refuses m → m ≡ 6
+unfolding layoutRule
+only-six s m = stops-six (panLength (lead s) && markAt Two s (lead s)) (expiryRule Two s (lead s) (lead s + 1)) m (expiry-six Two s m (lead s) (lead s + 1))
+
+-- a text is refused exactly where no pieces of the form make it up, and then with 6
+pub six-exactly : (s : List ℕ) (n : ℕ) → (layoutRule s ≡ refuses n) ↔ ((n ≡ 6) × ((g : Pieces) → Formed g × (textOf g ≡ s) → ⊥))
+six-exactly s =
+    refused-exactly (λ (g : Pieces). Formed g × (textOf g ≡ s)) (layoutRule s) (only-six s)
+    (λ g h. (placesOf g, sym (ap layoutRule (h .1)) ∙ form-accepted g (h .0)))
+    (λ d e. let w = accepted-form s d e in (piecesAt s d, (w .formed, w .text)))
 
 -- what is said tells the answer
 pub said-one : (r q : Division) → said r ≡ said q → r ≡ q

@@ -7,8 +7,8 @@ use lib.ListN.{length, take, drop}
 use Rattle.text.specs.Bytes.{allDigits}
 use Rattle.pan.specs.Pan.{panLength}
 use Rattle.layout.specs.Layout.{mark, isExpiry, isService, Places}
-use Rattle.layout.specs.declared.inner.Track.{Track}
-use Rattle.layout.specs.declared.inner.Track.the-variants.{Two}
+use Rattle.layout.specs.declared.Track.{Track}
+use Rattle.layout.specs.declared.Track.the-variants.{Two}
 use Rattle.layout.specs.declared.Field.{Field}
 use Rattle.layout.specs.declared.Field.the-variants.{Absent, At}
 

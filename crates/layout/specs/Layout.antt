@@ -10,8 +10,8 @@ use Rattle.text.specs.Numbers.{decimal}
 use Rattle.text.specs.Parts.{PartOf}
 use Rattle.reasons.specs.Reasons.{numberOf, Outcome, gives, refuses, demand, andThen}
 use Rattle.pan.specs.Pan.{panLength}
-use Rattle.layout.specs.declared.inner.Track.{Track}
-use Rattle.layout.specs.declared.inner.Track.the-variants.{Two, One}
+use Rattle.layout.specs.declared.Track.{Track}
+use Rattle.layout.specs.declared.Track.the-variants.{Two, One}
 use Rattle.layout.specs.declared.Field.{Field}
 use Rattle.layout.specs.declared.Field.the-variants.{Absent, At}
 use Rattle.layout.specs.declared.inner.Due.{Due}

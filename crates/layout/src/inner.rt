@@ -1,6 +1,7 @@
 // For the crates above: the steps of a division, over the track that it is of.
 use crate::Division;
 use crate::Field;
+use crate::Track;
 use reasons::Reason;
 ghost use mathlib.Core.Path.{_≡_};
 ghost use mathlib.Core.Bool.{Bool};
@@ -10,12 +11,6 @@ ghost use lib.ListN.{length, getD, take, drop};
 ghost use Rattle.text.specs.Bytes.{every};
 ghost use Rattle.text.specs.Parts.{PartOf};
 ghost use Rattle.layout.specs.Layout.{mark, isNamed, allowed, isExpiry, isService, leading, lead, fieldRule, restRule, serviceRule, expiryRule, said, saidDue, CutOf, fieldCut};
-
-// The track that the characters were read from.
-pub enum Track {
-    Two,
-    One,
-}
 
 // What ends the PAN, and stands for an absent field: `=`, and on track 1 `^`.
 fn mark_of(track: Track) -> u8

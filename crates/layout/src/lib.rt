@@ -1,7 +1,6 @@
 // The characters between track 2's sentinels (ISO/IEC 7813), divided into PAN, expiry, service code and discretionary data.
 pub mod inner;
 
-use inner::Track;
 use inner::byte_at;
 use inner::cut;
 use inner::field_of;
@@ -12,6 +11,12 @@ ghost use mathlib.Core.Path.{_≡_};
 ghost use lib.ListN.{length};
 ghost use Rattle.reasons.specs.Reasons.{numberIn};
 ghost use Rattle.layout.specs.Layout.{layoutRule, said, CutOf, panCut, expiryCut, serviceCut, restCut};
+
+// The track that characters were read from.
+pub enum Track {
+    Two,
+    One,
+}
 
 // A field that may be absent: where it stands.
 pub enum Field {

@@ -10,7 +10,7 @@ use Rattle.text.specs.Bytes.{isDigit}
 use Rattle.reasons.specs.Reasons.{gives}
 use Rattle.layout.specs.Layout.{isNamed, isExpiry, isService, leading, lead}
 use Rattle.layout.specs.Grammar.{Optional, written}
-use Rattle.layout.specs.declared.inner.Track.the-variants.{One}
+use Rattle.layout.specs.declared.Track.the-variants.{One}
 use Rattle.layout.proofs.Forms.{front-byte, lead-is, expiry-is, service-is}
 use Rattle.layout.proofs.Laws.{field-again, behind-expiry, behind-service, tail-accepted}
 use Rattle.layout1.specs.Layout1.{nameLength, withName, fieldsRule, nameRule, layout1Rule}

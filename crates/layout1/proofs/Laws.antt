@@ -3,6 +3,7 @@ use Prim.Native.Nat.{ℕ, suc, _+_, _≤_, _<_}
 use mathlib.Core.Path.{_≡_, sym, ap, ap₂, _∙_, subst}
 use mathlib.Core.Bool.{true, _&&_}
 use mathlib.Core.List.{List, _∷_, _++_}
+use mathlib.Core.Logic.{_↔_}
 use native.Mathlib.Omega.{arith}
 use lib.Dec.{eqb}
 use lib.ListN.{length, getD, take, drop, take-append-drop, length-append, length-drop}
@@ -10,21 +11,22 @@ use lib.Seq.{drop-cons, drop-drop, length-take-le}
 use borrow.Author.Tests.{eqb-true}
 use denote.Ref.{RefT}
 use Rattle.text.specs.Bytes.{within, isDigit, every, allDigits}
-use Rattle.text.proofs.Tests.{both-true}
+use Rattle.text.proofs.Tests.{inside-is, both-true}
 use Rattle.text.proofs.Parts.{Same, part-one}
-use Rattle.reasons.specs.Reasons.{numberOf, numberIn, gives}
+use Rattle.reasons.specs.Reasons.{numberOf, numberIn, gives, refuses}
 use Rattle.reasons.proofs.Laws.{gives-refuses, refuses-one, passed, went-on}
 use Rattle.pan.specs.Pan.{panLength}
 use Rattle.layout.specs.Layout.{isNamed, isExpiry, isService, lead, markAt, past, expiryRule, CutOf, fieldCut}
 use Rattle.layout.specs.Layout as fields
 use Rattle.layout.specs.Grammar.{Optional, written, placed, fieldIn}
-use Rattle.layout.specs.declared.inner.Track.the-variants.{One}
+use Rattle.layout.specs.declared.Track.the-variants.{One}
 use Rattle.layout.proofs.Forms.{present-byte, lead-pass, expiry-is, service-is, past-written}
-use Rattle.layout.proofs.Laws.{Tail, tail-there, field-fits}
+use Rattle.layout.proofs.Laws.{Tail, tail-there, field-fits, written-size, placed-start, stops-six, then-six, expiry-six, refused-exactly}
 use Rattle.layout1.specs.Layout1.{Places, nameLength, fieldsRule, nameRule, layout1Rule, said, panCut, nameCut, expiryCut, serviceCut, restCut}
-use Rattle.layout1.specs.Grammar1.{textOf, Formed, placesOf, piecesAt}
+use Rattle.layout1.specs.Grammar1.{Pieces, textOf, Formed, expiryAt, placesOf, piecesAt}
 use Rattle.layout1.specs.declared.Division.{Division}
 use Rattle.layout1.specs.declared.Division.the-variants.{Fields, Refused}
+use Rattle.layout1.proofs.Forms.{form-accepted}
 
 -- what is said tells the answer
 pub said-one : (r q : Division) → said r ≡ said q → r ≡ q
@@ -166,6 +168,55 @@ module _ (s : List ℕ) (d : Places) (accepted : layout1Rule s ≡ gives d) wher
 
   pub service-fits : fieldCut 3 (d .service) .start + fieldCut 3 (d .service) .size ≤ length s
   service-fits = field-fits s 3 isService service-is (d .service) (accepted-form s d accepted .formed .service-right)
+
+-- and near its front
+pub places-small : (s : List ℕ) (d : Places) → layout1Rule s ≡ gives d
+    → (d .pan ≤ 19) × (d .name ≤ 26) × (fieldCut 4 (d .expiry) .start ≤ 48) × (fieldCut 3 (d .service) .start ≤ 52) × (d .rest ≤ 55)
+places-small s d accepted =
+    let a = accepted-form s d accepted in
+    let g = piecesAt s d in
+    let p : length (g .pan) ≤ 19 = inside-is 13 19 _ (a .formed .pan-length) .1 in
+    let n : length (g .name) ≤ 26 = inside-is 2 26 _ (a .formed .name-length) .1 in
+    let e = written-size One 4 isExpiry expiry-is (g .expiry) (a .formed .expiry-right) in
+    let v = written-size One 3 isService service-is (g .service) (a .formed .service-right) in
+    subst
+    (λ (x : Places).
+    (x .pan ≤ 19) × (x .name ≤ 26) × (fieldCut 4 (x .expiry) .start ≤ 48) × (fieldCut 3 (x .service) .start ≤ 52) × (x .rest ≤ 55))
+    (a .places) (
+      p,
+      n,
+      omega (arith, p, n, placed-start 4 (expiryAt g) (g .expiry)),
+      omega (arith, p, n, e, placed-start 3 (expiryAt g + length (written One (g .expiry))) (g .service)),
+      omega (arith, p, n, e, v),
+    )
+
+-- ---- anything else is 6
+
+module _ (s : List ℕ) (m : ℕ) where
+  fields-six : (p n : ℕ) → fieldsRule s p n ≡ refuses m → m ≡ 6
+  unfolding fieldsRule
+  fields-six p n =
+      then-six (expiryRule One s p (p + n + 3)) _ m (expiry-six One s m p (p + n + 3)) (λ d. gives-refuses (told n d) m)
+    where
+      told : ℕ → fields.Places → Places
+      told n d = record { pan = d .pan; name = n; expiry = d .expiry; service = d .service; rest = d .rest }
+
+  name-six : (p : ℕ) → nameRule s p ≡ refuses m → m ≡ 6
+  unfolding nameRule
+  name-six p = stops-six (within 2 26 (nameLength s p) && markAt One s (p + nameLength s p + 2)) _ m (fields-six p (nameLength s p))
+
+  only-six : layout1Rule s ≡ refuses m → m ≡ 6
+  unfolding layout1Rule
+  only-six =
+      let p = lead (drop 1 s) in
+      stops-six (eqb (getD s 0 0) 66 && (panLength p && markAt One s (p + 1))) (nameRule s p) m (name-six p)
+
+-- a text is refused exactly where no pieces of the form make it up, and then with 6
+pub six-exactly : (s : List ℕ) (n : ℕ) → (layout1Rule s ≡ refuses n) ↔ ((n ≡ 6) × ((g : Pieces) → Formed g × (textOf g ≡ s) → ⊥))
+six-exactly s =
+    refused-exactly (λ (g : Pieces). Formed g × (textOf g ≡ s)) (layout1Rule s) (only-six s)
+    (λ g h. (placesOf g, sym (ap layout1Rule (h .1)) ∙ form-accepted g (h .0)))
+    (λ d e. let w = accepted-form s d e in (piecesAt s d, (w .formed, w .text)))
 
 -- any two answers that the promise of a part, or of the number, allows are equal: its place and its bytes
 module _ (s r q : RefT (List ℕ)) where

@@ -10,7 +10,7 @@ use Rattle.text.proofs.Tests.{under, over, inside}
 use Rattle.reasons.specs.Reasons.{Outcome, refuses}
 use Rattle.layout.specs.Layout.{lead, expiryRule}
 use Rattle.layout.specs.Layout as fields
-use Rattle.layout.specs.declared.inner.Track.the-variants.{One}
+use Rattle.layout.specs.declared.Track.the-variants.{One}
 use Rattle.layout1.specs.Layout1.{nameLength, withName, fieldsRule, nameRule, layout1Rule}
 
 -- a piece that is as long as the text is the rest of it

@@ -8,7 +8,7 @@ use Rattle.text.specs.Bytes.{within, every, allDigits}
 use Rattle.pan.specs.Pan.{panLength}
 use Rattle.layout.specs.Layout.{isNamed, isExpiry, isService}
 use Rattle.layout.specs.Grammar.{Optional, written, Passes, placed, fieldIn}
-use Rattle.layout.specs.declared.inner.Track.the-variants.{One}
+use Rattle.layout.specs.declared.Track.the-variants.{One}
 use Rattle.layout1.specs.Layout1.{Places}
 
 pub record Pieces : Type 0 where

@@ -9,7 +9,7 @@ use Rattle.reasons.specs.Reasons.{numberOf, Outcome, gives, refuses, demand, an
 use Rattle.pan.specs.Pan.{panLength}
 use Rattle.layout.specs.Layout.{isNamed, leading, lead, markAt, expiryRule, Cut, none, fieldCut}
 use Rattle.layout.specs.Layout as fields
-use Rattle.layout.specs.declared.inner.Track.the-variants.{One}
+use Rattle.layout.specs.declared.Track.the-variants.{One}
 use Rattle.layout.specs.declared.Field.{Field}
 use Rattle.layout1.specs.declared.Division.{Division}
 use Rattle.layout1.specs.declared.Division.the-variants.{Fields, Refused}

@@ -1,6 +1,6 @@
 // The characters between track 1's sentinels (ISO/IEC 7813), divided into PAN, name, expiry, service code and discretionary data.
 use layout::Field;
-use layout::inner::Track;
+use layout::Track;
 use layout::inner::cut;
 use layout::inner::field_of;
 use reasons::Reason;

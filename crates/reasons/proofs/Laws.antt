@@ -1,5 +1,5 @@
 -- The laws of `demand` and of the numbers, which every rule uses. Assumes nothing.
-use mathlib.Core.Path.{_≡_, refl, sym, ap, _∙_}
+use mathlib.Core.Path.{_≡_, refl, sym, ap, _∙_, subst⁻¹}
 use mathlib.Core.Bool.{Bool, true, false}
 use mathlib.Core.Logic.{_⊎_, _↔_, inl, inr, ⊎-elim}
 use Prim.Native.Nat.{ℕ}
@@ -147,6 +147,16 @@ module _ {A B : Type 0} (o : Outcome A) (f : A → Outcome B) where
     λ e. ⊎-elim (λ h. inl h) (λ h. inr (h .0, h .1, r (h .0) .0 (h .2))) (went-wrong o f n e),
     ⊎-elim (λ h. goes-on (refuses n) (refuses n) h refl) (λ h. goes-on (gives (h .0)) (refuses n) (h .1) (r (h .0) .1 (h .2))),
   )
+
+-- what follows a chain stands behind its last link, so that such a chain is told link by link too
+follows : {A B : Type 0} (t : Bool) (n : ℕ) (o : Outcome A) (f : A → Outcome B) → andThen (demand t n o) f ≡ demand t n (andThen o f)
+follows true n o f = refl
+follows false n o f = refl
+
+pub follows-exactly : {A B Rest : Type 0} (t : Bool) (n : ℕ) (o : Outcome A) (f : A → Outcome B) (m : ℕ) → (andThen o f ≡ refuses m) ↔ Rest
+    → (andThen (demand t n o) f ≡ refuses m) ↔ First t n m Rest
+follows-exactly {B = B} {Rest = Rest} t n o f m r =
+    subst⁻¹ (λ (q : Outcome B). (q ≡ refuses m) ↔ First t n m Rest) (follows t n o f) (refuses-exactly t n (andThen o f) m r)
 
 -- a call that only makes something of another's value refuses exactly where the other does
 pub made-of : {A B : Type 0} (o : Outcome A) (f : A → B) (n : ℕ) → (andThen o (λ v. gives (f v)) ≡ refuses n) ↔ (o ≡ refuses n)

@@ -21,8 +21,8 @@ use Rattle.bits.specs.Reading.{Format, Track as Read, readRule, readBytes, coun
 use Rattle.bits.proofs.Laws.{chars-fit}
 use Rattle.bits.proofs.Counts as counts
 use Rattle.layout.specs.Layout.{Cut, layoutRule}
-use Rattle.layout.specs.declared.inner.Track.{Track}
-use Rattle.layout.specs.declared.inner.Track.the-variants.{Two, One}
+use Rattle.layout.specs.declared.Track.{Track}
+use Rattle.layout.specs.declared.Track.the-variants.{Two, One}
 use Rattle.layout.proofs.Laws as layout
 use Rattle.layout1.specs.Layout1.{layout1Rule}
 use Rattle.layout1.proofs.Laws as layout1

@@ -15,8 +15,8 @@ use Rattle.bits.specs.Reading.{Format, readRule}
 use Rattle.track1.specs.Track1.{track1}
 use Rattle.track2.specs.Track2.{track2}
 use Rattle.layout.specs.Layout.{Cut, layoutRule}
-use Rattle.layout.specs.declared.inner.Track.{Track}
-use Rattle.layout.specs.declared.inner.Track.the-variants.{Two, One}
+use Rattle.layout.specs.declared.Track.{Track}
+use Rattle.layout.specs.declared.Track.the-variants.{Two, One}
 use Rattle.layout1.specs.Layout1.{layout1Rule}
 use Rattle.slots.specs.Journal.{NewestIs}
 use Rattle.slots.specs.Views.{formed, newest}
@@ -59,12 +59,6 @@ pub record Given : Type 0 where
 
 abbrev pub given : Track → List ℕ → ℕ → List ℕ → List ℕ → Given
 given k s n i a = record { track = k; stream = s; bits = n; site = i; acquirer = a }
-
-abbrev pub given2 : List ℕ → ℕ → List ℕ → List ℕ → Given
-given2 = given Two
-
-abbrev pub given1 : List ℕ → ℕ → List ℕ → List ℕ → Given
-given1 = given One
 
 -- what a swipe makes of it: the PAN, and the label of its range
 pub record Payer : Type 0 where

@@ -1,6 +1,6 @@
 // One swipe, from the stripe to the journal.
 use bits::Read;
-use layout::inner::Track;
+use layout::Track;
 use ranges::inner::Labelled;
 use reasons::Reason;
 use reasons::Tested;
@@ -13,7 +13,7 @@ ghost use Rattle.text.specs.Numbers.{put};
 ghost use Rattle.ranges.specs.Ranges.{tableOk};
 ghost use Rattle.bits.specs.Reading.{readRule, readBytes, said, counted};
 ghost use Rattle.slots.specs.Views.{Seen};
-ghost use Rattle.swipe.specs.Swipe.{format, divisionRule, room, given, given1, given2, payerRule, partOf, charsRule, cardRule, boxRule, saidBookable, saidSpot, saidCard, panEnd, PanAt, Charges, Swipes};
+ghost use Rattle.swipe.specs.Swipe.{format, divisionRule, room, given, payerRule, partOf, charsRule, cardRule, boxRule, saidBookable, saidSpot, saidCard, panEnd, PanAt, Charges, Swipes};
 
 // ---- the tracks that a swipe reads, and what differs between them
 
@@ -212,8 +212,8 @@ fn clear(scratch: &mut [u8], n: usize)
     text::put_at(scratch, 0, &zeros[..n]);
 }
 
-// A swipe of a card on this track.
-fn swipe_on(
+// A swipe of a card's track: it refuses, or it books one payment and answers its serial. The scratch holds the card's characters in between.
+pub fn swipe(
     track: Track,
     stream: &[u8],
     bits: u64,
@@ -244,58 +244,4 @@ fn swipe_on(
     );
     clear(scratch, n);
     r
-}
-
-// A swipe of track 2: it refuses, or it books one payment and answers its serial. The scratch holds the card's characters in between.
-pub fn swipe(
-    stream: &[u8],
-    bits: u64,
-    site: &[u8],
-    acquirer: &[u8],
-    amount: u32,
-    clock: u32,
-    scratch: &mut [u8],
-    journal: &mut [u8],
-) -> Swiped
-    ensures { λ r. ⌜ Swipes (given2 (now (stream .entry)) bits (now (site .entry)) (now (acquirer .entry))) amount clock
-        (now (scratch .entry)) (now (journal .entry)) r (now (scratch .exit)) (now (journal .exit)) ⌝ }
-{
-    swipe_on(
-        Track::Two,
-        stream,
-        bits,
-        site,
-        acquirer,
-        amount,
-        clock,
-        scratch,
-        journal,
-    )
-}
-
-// A swipe of track 1: the same, with 76 bytes of scratch.
-pub fn swipe1(
-    stream: &[u8],
-    bits: u64,
-    site: &[u8],
-    acquirer: &[u8],
-    amount: u32,
-    clock: u32,
-    scratch: &mut [u8],
-    journal: &mut [u8],
-) -> Swiped
-    ensures { λ r. ⌜ Swipes (given1 (now (stream .entry)) bits (now (site .entry)) (now (acquirer .entry))) amount clock
-        (now (scratch .entry)) (now (journal .entry)) r (now (scratch .exit)) (now (journal .exit)) ⌝ }
-{
-    swipe_on(
-        Track::One,
-        stream,
-        bits,
-        site,
-        acquirer,
-        amount,
-        clock,
-        scratch,
-        journal,
-    )
 }

@@ -1,4 +1,4 @@
-use Rattle.swipe.specs.Swipe.{given2}
+use Rattle.swipe.specs.Swipe.{given}
 use Rattle.history.proofs.Scripts.{same-swipe, stream-is, swipe-refused-came, swiped-came}
 use borrow.Author.Needs.{needs}
 use Rattle.history.proofs.play_swipe.Statement.{statement}
@@ -69,7 +69,7 @@ returns c =
     let b = c .before .before .before .before .before .before .before in
     let s0 = b .before .before .before .before .before .before .before .before .before .before .before .before in
     same-swipe _ _ _ _ _
-    (λ i. given2 (stream-is (s0 .args .script .now) (s0 .args .at) i) (b .before .before .before .before .u32-at3 .ensures i) (s0 .args .site .now) (s0 .args .acquirer .now))
+    (λ i. given (s0 .args .track) (stream-is (s0 .args .script .now) (s0 .args .at) i) (b .before .before .before .before .u32-at3 .ensures i) (s0 .args .site .now) (s0 .args .acquirer .now))
     (b .before .before .before .before .before .before .u32-at .ensures) (b .before .before .before .before .before .u32-at2 .ensures)
     (swipe-refused-came _ _ _ (search needs) _ _ _ _ _ (b .swipe .ensures) _ _ (c .before .enum-told .given .1) (c .counted .ensures))
 
@@ -84,7 +84,7 @@ returns-2 c =
     let b = c .before .before .before .before .before .before .before in
     let s0 = b .before .before .before .before .before .before .before .before .before .before .before .before in
     same-swipe _ _ _ _ _
-    (λ i. given2 (stream-is (s0 .args .script .now) (s0 .args .at) i) (b .before .before .before .before .u32-at3 .ensures i) (s0 .args .site .now) (s0 .args .acquirer .now))
+    (λ i. given (s0 .args .track) (stream-is (s0 .args .script .now) (s0 .args .at) i) (b .before .before .before .before .u32-at3 .ensures i) (s0 .args .site .now) (s0 .args .acquirer .now))
     (b .before .before .before .before .before .before .u32-at .ensures) (b .before .before .before .before .before .u32-at2 .ensures)
     (swiped-came _ _ _ (search needs) _ _ _ _ _ (b .swipe .ensures) _ _ (c .before .enum-told2 .given .1) (c .counted2 .ensures))
 

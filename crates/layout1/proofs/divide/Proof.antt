@@ -17,7 +17,7 @@ code : (c : tie.After-lead-of) → getD (text c) 0 0 ≡ 66
 code c = let b = c .before .before in sym (b .before .byte-at .ensures) ∙ b .if1 .left
 
 pan-is : (c : tie.After-lead-of) → c .lead-of .result ≡ lead (drop 1 (text c))
-pan-is c = c .lead-of .ensures .0 ∙ ap lead (c .before .piece .ensures ∙ rest-of (text c) 1)
+pan-is c = c .lead-of .ensures .0 ∙ ap lead (c .before .piece .ensures .bytes ∙ rest-of (text c) 1)
 
 byte-at-requires : tie.Need-byte-at-requires
 byte-at-requires c κs = search needs

@@ -12,7 +12,7 @@ use Rattle.layout1.proofs.with_pan.Tie as tie
 name-is : (c : tie.After-named-of) → let a = c .before .before .before .args in c .named-of .result ≡ nameLength (a .chars .now) (a .pan)
 name-is c =
     let a = c .before .before .before .args in
-    c .named-of .ensures .0 ∙ ap (leading isNamed) (c .before .piece .ensures ∙ rest-of (a .chars .now) (a .pan + 2))
+    c .named-of .ensures .0 ∙ ap (leading isNamed) (c .before .piece .ensures .bytes ∙ rest-of (a .chars .now) (a .pan + 2))
 
 add-piece : tie.Need-add-piece
 add-piece c = search needs

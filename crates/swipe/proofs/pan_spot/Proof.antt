@@ -3,7 +3,7 @@ use mathlib.Core.Path.{_≡_, sym, ap, _∙_}
 use Rattle.reasons.specs.Reasons.{Outcome, gives, andThen}
 use Rattle.layout.specs.Layout as layout
 use Rattle.layout.specs.declared.Division as layout-answer
-use Rattle.layout.specs.declared.inner.Track.{Track}
+use Rattle.layout.specs.declared.Track.{Track}
 use Rattle.layout1.specs.Layout1 as layout1
 use Rattle.layout1.specs.declared.Division as layout1-answer
 use Rattle.swipe.specs.Swipe.{divisionRule}

@@ -2,7 +2,7 @@
 use mathlib.Core.Path.{sym, ap, _∙_}
 use lib.ListN.{length}
 use Rattle.bits.specs.Reading.{readRule, readBytes, counted}
-use Rattle.layout.specs.declared.inner.Track.{Track}
+use Rattle.layout.specs.declared.Track.{Track}
 use Rattle.swipe.specs.Swipe.{format}
 use borrow.Author.Needs.{needs}
 use Rattle.swipe.proofs.read.Statement.{statement}

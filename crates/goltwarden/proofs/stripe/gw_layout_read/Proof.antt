@@ -1,22 +1,16 @@
 use borrow.Author.Needs.{needs}
 use Prim.Native.Nat.{ℕ, _≤_, _<_}
-use mathlib.Core.Path.{_≡_, refl, sym, ap, _∙_}
+use mathlib.Core.Path.{_≡_, sym, ap, _∙_}
 use native.Mathlib.Omega.{arith}
 use Rattle.reasons.specs.Reasons.{Outcome, gives}
 use Rattle.layout.specs.Layout.{Places, layoutRule, said, fieldCut}
-use Rattle.layout.specs.declared.Field.{Field}
-use Rattle.layout.specs.declared.Field.the-variants.{Absent, At}
 use Rattle.layout.proofs.Laws.{places-small}
 use Rattle.goltwarden.specs.Values.{startsOf}
 use Rattle.goltwarden.specs.Hands.{Hands}
 use Rattle.goltwarden.proofs.Handed.{gave, kept, behind-is}
+use Rattle.goltwarden.proofs.Readings.{same-start}
 use Rattle.goltwarden.proofs.stripe.gw_layout_read.Statement.{statement}
 use Rattle.goltwarden.proofs.stripe.gw_layout_read.Tie as tie
-
--- where a field stands, whatever its size
-same-start : (f : Field) (n m : ℕ) → fieldCut n f .start ≡ fieldCut m f .start
-same-start Absent n m = refl
-same-start (At q) n m = refl
 
 -- what C gets of a division into the places d, the starts of whose fields were told apart from their sizes
 divided-so : (o : Outcome Places) (x : ℕ × ℕ × ℕ × ℕ) (d : Places) (e s : ℕ) → e ≡ fieldCut 0 (d .expiry) .start → s ≡ fieldCut 0 (d .service) .start

@@ -4,7 +4,7 @@ use lib.Dec.{eqb}
 use lib.ListN.{length}
 use Rattle.text.specs.Bytes.{every}
 use Rattle.layout.specs.Layout.{isNamed, allowed}
-use Rattle.layout.specs.declared.inner.Track.{Track}
+use Rattle.layout.specs.declared.Track.{Track}
 use Rattle.layout.proofs.Fields.{all-lead}
 use borrow.Author.Needs.{needs}
 use Rattle.layout.proofs.inner.all_allowed.Statement.{statement}

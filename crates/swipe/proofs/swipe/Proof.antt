@@ -1,4 +1,4 @@
--- `swipe_on` tests the scratch, lets it be used, and clears it. Assumes nothing.
+-- `swipe` tests the scratch, lets it be used, and clears it. Assumes nothing.
 use Prim.Native.Nat.{ℕ, _<_}
 use mathlib.Core.Path.{subst}
 use native.Mathlib.Omega.{arith}
@@ -8,8 +8,8 @@ use Rattle.slots.specs.declared.Newest.the-variants.{Malformed}
 use Rattle.swipe.proofs.Cards.{room-small}
 use Rattle.swipe.proofs.Steps.{refused, short-scratch, kept-short, cleared}
 use borrow.Author.Needs.{needs}
-use Rattle.swipe.proofs.swipe_on.Statement.{statement}
-use Rattle.swipe.proofs.swipe_on.Tie as tie
+use Rattle.swipe.proofs.swipe.Statement.{statement}
+use Rattle.swipe.proofs.swipe.Tie as tie
 
 room-of-requires : tie.Need-room-of-requires
 room-of-requires c κs = search needs
@@ -45,8 +45,8 @@ returns-2 c =
     let left = cleared _ _ _ _ _ (e .before .room-of .ensures) (e .if1 .left) (b .book-card .ensures .1) (k .clear .ensures) in
     record { view = w .view; is = λ _. w .is; so = w .so; scratch = left }
 
-pub swipe-on-spec : {M : Type 1} → statement M
-swipe-on-spec =
+pub swipe-spec : {M : Type 1} → statement M
+swipe-spec =
     tie.close
     (tie.spec
     room-of-requires

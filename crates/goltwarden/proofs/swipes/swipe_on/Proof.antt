@@ -2,8 +2,8 @@ use mathlib.Core.Path.{sym, ap}
 use Rattle.swipe.specs.Swipe.{saidSwiped}
 use Rattle.goltwarden.proofs.Handed.{gave, kept}
 use borrow.Author.Needs.{needs}
-use Rattle.goltwarden.proofs.swipes.gw_swipe.Statement.{statement}
-use Rattle.goltwarden.proofs.swipes.gw_swipe.Tie as tie
+use Rattle.goltwarden.proofs.swipes.swipe_on.Statement.{statement}
+use Rattle.goltwarden.proofs.swipes.swipe_on.Tie as tie
 
 swipe-requires : tie.Need-swipe-requires
 swipe-requires c κs = search needs
@@ -39,8 +39,8 @@ returns-2 c =
     let l = c .before .before .before .before .before .before .before .before .swipe in
     record { answer = l .result; allowed = l .ensures; handed = kept _ _ _ _ _ (c .number .ensures) (sym (ap saidSwiped (c .before .before .why .given .1))) }
 
-pub gw-swipe-spec : {M : Type 1} → statement M
-gw-swipe-spec =
+pub swipe-on-spec : {M : Type 1} → statement M
+swipe-on-spec =
     tie.close
     (tie.spec
     swipe-requires
