@@ -252,8 +252,8 @@ static const struct track track1 = {7, 0x45, 0x1f, ' ', 76, true, '^', is_named}
 
 enum { MOST = 76 }; /* characters of either track */
 
-/* What stands once over the track is compiled once for each track, as if it had been
- * written for it: the benchmark's plain C isn't to pay for standing once. */
+/* What stands here once over the track is compiled once for each track, as if it had
+ * been written for it: the benchmark's plain C isn't to pay for standing once. */
 #define OVER_TRACK static inline __attribute__((always_inline))
 
 /* ---- A track from bits -------------------------------------------------- */
@@ -460,8 +460,7 @@ static bool take_field(struct text *s, size_t n, uint8_t mark, uint32_t *field)
     return true;
 }
 
-OVER_TRACK bool read_layout(const struct track *t, const uint8_t *chars, size_t n,
-                            struct layout *l)
+static bool read_layout(const struct track *t, const uint8_t *chars, size_t n, struct layout *l)
 {
     struct text s = {chars, n, 0};
     uint8_t absent = SLIP_ONE(58, t->mark, '=');
