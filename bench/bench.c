@@ -102,7 +102,12 @@ static void row(const char *name, unsigned size)
 
 static const char pan[] = "4111111111111111";
 static const char card[] = "4111111111111111=2512101";
-static const char full_track[] = ";4111111111111111=25121010000000000000?";
+static const char card1[] = "B4111111111111111^DOE/JANE^2512101";
+
+/* Each track with as many characters between its sentinels as it can have. */
+static const char full_track2[] = ";4111111111111111=25121010000000000000?";
+static const char full_track1[] =
+    "%B4111111111111111^ABCDEFGHIJKLMNOPQRSTUVWXYZ^2512101FLEET 0123456789 ABCDEFG?";
 
 static void start(enum call call)
 {
@@ -133,6 +138,7 @@ static void text_rows(void)
     text_row("luhn_make", LUHN_MAKE, "411111111111111", "");
     text_row("pan_mask", PAN_MASK, pan, pan);
     text_row("layout_read", LAYOUT_READ, card, "");
+    text_row("layout1_read", LAYOUT1_READ, card1, "");
     text_row("creditor_test", CREDITOR_TEST, "RF18539007547034", "");
     text_row("creditor_make", CREDITOR_MAKE, "539007547034", "");
     text_row("iban_test.DE", IBAN_TEST, "DE89370400440532013000", "");
@@ -141,26 +147,32 @@ static void text_rows(void)
     text_row("iban_make.DE", IBAN_MAKE, "DE", "370400440532013000");
 }
 
-/* The full track in buffer 0: sixteen zeros, 40 characters, sixteen zeros. */
-static void lend_track(bool reversed)
+static const char *full_track(const struct track *t)
 {
-    uint8_t stream[29] = {0};
-    put_track(stream + 2, full_track);
-    made.r.bits = 8 * sizeof stream;
-    made.r.n[0] = sizeof stream;
-    memset(made.bytes[0], 0, sizeof stream);
+    return t == &track1 ? full_track1 : full_track2;
+}
+
+/* The full track in buffer 0: sixteen zeros, the characters with their LRC, sixteen
+ * zeros. */
+static void lend_track(const struct track *t, bool reversed)
+{
+    uint8_t stream[80] = {0};
+    put_track(t, stream + 2, full_track(t));
+    made.r.bits = 16 + t->width * (t->most + 3) + 16;
+    made.r.n[0] = (made.r.bits + 7) / 8;
+    memset(made.bytes[0], 0, made.r.n[0]);
     for (size_t i = 0; i < made.r.bits; i++) {
         size_t to = reversed ? made.r.bits - 1 - i : i;
         made.bytes[0][to / 8] |= (uint8_t)((stream[i / 8] >> i % 8 & 1) << to % 8);
     }
 }
 
-static void track_row(const char *name, bool reversed)
+static void track_row(const char *name, const struct track *t, bool reversed)
 {
-    start(TRACK2_READ);
-    lend_track(reversed);
-    made.r.n[1] = 37;
-    printf("input %s 0 %s with LRC, sixteen zeros before and after%s\n", name, full_track,
+    start(t == &track1 ? TRACK1_READ : TRACK2_READ);
+    lend_track(t, reversed);
+    made.r.n[1] = t->most;
+    printf("input %s 0 %s with LRC, sixteen zeros before and after%s\n", name, full_track(t),
            reversed ? ", last bit first" : "");
     row(name, 0);
 }
@@ -273,12 +285,12 @@ static void walk_rows(unsigned slots)
     measure("walk.once", slots, slots + 1, once);
 }
 
-static void swipe_row(const char *name, bool reversed, unsigned slots)
+static void swipe_row(const char *name, const struct track *t, bool reversed, unsigned slots)
 {
-    start(SWIPE);
-    lend_track(reversed);
+    start(t == &track1 ? SWIPE1 : SWIPE);
+    lend_track(t, reversed);
     lend_table(2, 16);
-    made.r.n[3] = 37;
+    made.r.n[3] = t->most;
     lend_journal(4, slots, slots / 2);
     print_journal(name, slots, "; the full track, the 16 records, amount 250");
     row(name, slots);
@@ -294,8 +306,10 @@ static void journal_rows(unsigned slots)
     journal_row("walk_start", WALK_START, slots);
     journal_row("walk_step", WALK_STEP, slots);
     journal_row("journal_survey", JOURNAL_SURVEY, slots);
-    swipe_row("swipe", false, slots);
-    swipe_row("swipe.reversed", true, slots);
+    swipe_row("swipe", &track2, false, slots);
+    swipe_row("swipe.reversed", &track2, true, slots);
+    swipe_row("swipe1", &track1, false, slots);
+    swipe_row("swipe1.reversed", &track1, true, slots);
 }
 
 int main(void)
@@ -303,8 +317,10 @@ int main(void)
     static const unsigned records[] = {16, 64, 256, 1024, 4096};
     static const unsigned slots[] = {16, 64, 256, 1024, 2048};
     text_rows();
-    track_row("track2_read.forward", false);
-    track_row("track2_read.reversed", true);
+    track_row("track2_read.forward", &track2, false);
+    track_row("track2_read.reversed", &track2, true);
+    track_row("track1_read.forward", &track1, false);
+    track_row("track1_read.reversed", &track1, true);
     for (int i = 0; i < 5; i++)
         range_row(records[i]);
     for (int i = 0; i < 5; i++)

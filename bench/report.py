@@ -14,10 +14,20 @@ import sys
 
 LIMIT = 1.2
 
+READING = ("both sides read bit by bit; plain C is compiled for each track by itself, here the width is a value (five bits, or seven for track 1), "
+           "and each bit is fetched by itself in the direction asked for.")
+SWIPE = "most of what it costs more is its reading's, as above."
+
 # Row: why the library is above LIMIT times plain C there.
 NOTES = {
-    "track2_read.forward": "both sides read bit by bit; here the width is a value (five bits, or seven for track 1), and each bit is fetched by "
-                           "itself in the direction asked for. Request E9 (two characters at a look) is to replace that.",
+    "track2_read.forward": READING + " Request E9 (two characters at a look) is to replace that.",
+    "track2_read.reversed": "as forward.",
+    "track1_read.forward": READING,
+    "track1_read.reversed": "as forward.",
+    "swipe": SWIPE,
+    "swipe.reversed": SWIPE,
+    "swipe1": SWIPE,
+    "swipe1.reversed": SWIPE,
 }
 
 LIBRARY, PLAIN, NOTHING = range(3)

@@ -11,7 +11,7 @@
  * Every call returns 0, or the number of the reason for which it refuses
  * (enum gw_reason below). A call gives the first reason, in the order stated
  * for it, whose condition holds. Numbers answered go through pointers. On a
- * refusal nothing behind any pointer changes (exception: the swipe's
+ * refusal nothing behind any pointer changes (exception: a swipe's
  * scratch). A part of a lent buffer is answered as its byte offset in that
  * buffer; nothing is copied.
  *
@@ -37,9 +37,9 @@
  * changed to that memory afterwards, in this order, and answer nobody before all
  * of it is there:
  *
- * - After a booking, by gw_journal_book or gw_swipe: the 32 bytes of its slot,
- *   which begins at 32 * ((serial - 1) % slots). First bytes 16 to 31, then 0 to
- *   15, by rising address, so that the state byte, 15, comes last.
+ * - After a booking, by gw_journal_book, gw_swipe or gw_swipe1: the 32 bytes of
+ *   its slot, which begins at 32 * ((serial - 1) % slots). First bytes 16 to 31,
+ *   then 0 to 15, by rising address, so that the state byte, 15, comes last.
  * - After a release: the state byte (15) of each slot that became released, by
  *   rising serial, and no other byte.
  *
@@ -72,7 +72,7 @@ extern "C" {
 #endif
 
 /* The version of this interface, as gw_version() answers it. */
-#define GW_VERSION 2
+#define GW_VERSION 3
 
 /* The numbered reasons. */
 enum gw_reason {
@@ -101,6 +101,7 @@ enum gw_reason {
 
 /* Sizes a caller needs. */
 #define GW_TRACK_BYTES 37        /* output of gw_track2_read, scratch of gw_swipe */
+#define GW_TRACK1_BYTES 76       /* output of gw_track1_read, scratch of gw_swipe1 */
 #define GW_TRACK_BITS 4096       /* the most bits a stream has */
 #define GW_RANGE_BYTES 16        /* one record of a range table */
 #define GW_RANGE_TABLE_BYTES 65536 /* the longest range table */
@@ -189,6 +190,44 @@ uint32_t gw_track2_read(const uint8_t *stream, size_t stream_n, uint64_t bits,
 uint32_t gw_layout_read(const uint8_t *chars, size_t chars_n,
                         uint32_t *pan_n, uint32_t *expiry_at,
                         uint32_t *service_at, uint32_t *rest_at);
+
+/* ---- Track 1 ------------------------------------------------------------ */
+
+/* Read track 1 from bits, either way round. The stream's bits count as they do
+ * for gw_track2_read. A character is seven bits: six data bits, lowest first,
+ * then one making the count of ones odd; its number 0 to 63 stands for byte 32 +
+ * number. The stream is read forward and, if that is refused, reversed, last bit
+ * first; there are streams that read both ways, and these are read forward.
+ * Accepted: the characters strictly between the start sentinel '%' and the end
+ * sentinel '?' go to the output's first bytes, later bytes stay; *count receives
+ * how many they are (0 to 76), *reversed 0 for a stream read forward, 1 for one
+ * read reversed.
+ * Order: 1 if the output has under 76 bytes; 7 if `bits` is over 4,096 or over
+ * 8 times the bytes lent; then, if both ways refuse, forward's number, unless
+ * that is 8, when it is the reversed reading's number.
+ * Reading one way, zeros are skipped to the first one bit: 8 unless the start
+ * sentinel stands there; then for each character 9 if fewer than seven bits are
+ * left, 10 for even parity; 11 if the 78th character, the start sentinel being
+ * the first, isn't the end sentinel; then of the LRC character 9, 10, and 12 if
+ * it is wrong; 13 if a bit after it is one. */
+uint32_t gw_track1_read(const uint8_t *stream, size_t stream_n, uint64_t bits,
+                        uint8_t *out, size_t out_n,
+                        uint32_t *count, uint32_t *reversed);
+
+/* Divide the characters between the sentinels (ISO/IEC 7813): format code 'B';
+ * PAN of 13 to 19 digits; '^'; name of 2 to 26 characters; '^'; expiry as four
+ * digits YYMM with MM 01 to 12, or '^' for none; service code as three digits,
+ * or '^' for none; then discretionary data, perhaps none. Name and discretionary
+ * data hold any of the bytes 32 to 95 but '%', '^' and '?'. The PAN is at offset
+ * 1: *pan_n receives its length. The name is at offset *pan_n + 2: *name_n
+ * receives its length. *expiry_at receives the offset of the four expiry digits,
+ * *service_at that of the three service digits, each 0 if absent. *rest_at
+ * receives the offset of the discretionary data, which goes on to the end of the
+ * characters.
+ * Order: 6 for anything else. */
+uint32_t gw_layout1_read(const uint8_t *chars, size_t chars_n,
+                         uint32_t *pan_n, uint32_t *name_n, uint32_t *expiry_at,
+                         uint32_t *service_at, uint32_t *rest_at);
 
 /* ---- Check pairs modulo 97 (ISO 7064, MOD 97-10) ------------------------ */
 
@@ -306,10 +345,10 @@ uint32_t gw_walk_step(const uint8_t *journal, size_t journal_n, uint32_t serial,
 uint32_t gw_journal_survey(const uint8_t *journal, size_t journal_n,
                            uint8_t *states, size_t states_n, uint32_t *formed);
 
-/* ---- The swipe ---------------------------------------------------------- */
+/* ---- The swipes --------------------------------------------------------- */
 
-/* One swipe, from the stripe to the journal: read the stream either way round,
- * divide the characters, test the PAN by Luhn, find its range, and book the
+/* One swipe, from the stripe to the journal: read track 2 either way round,
+ * divide its characters, test the PAN by Luhn, find its range, and book the
  * amount with that range's label. *serial receives the serial booked.
  * Order: 1 if the scratch has under 37 bytes; 16; 14 for the site's table, then
  * for the acquirer's; 17 if the amount is 0; 19; 18; then the reading's
@@ -324,6 +363,17 @@ uint32_t gw_swipe(const uint8_t *stream, size_t stream_n, uint64_t bits,
                   uint8_t *scratch, size_t scratch_n,
                   uint8_t *journal, size_t journal_n,
                   uint32_t *serial);
+
+/* The same of a card on track 1: gw_swipe's answers in gw_swipe's order, with
+ * track 1 read and divided (gw_track1_read, gw_layout1_read) in place of track 2,
+ * and 76 bytes of scratch in place of 37. */
+uint32_t gw_swipe1(const uint8_t *stream, size_t stream_n, uint64_t bits,
+                   const uint8_t *site, size_t site_n,
+                   const uint8_t *acquirer, size_t acquirer_n,
+                   uint32_t amount, uint32_t clock,
+                   uint8_t *scratch, size_t scratch_n,
+                   uint8_t *journal, size_t journal_n,
+                   uint32_t *serial);
 
 #ifdef __cplusplus
 }

@@ -79,7 +79,7 @@ static void fill_any(uint8_t *s, size_t n)
 static uint8_t odd_byte(void)
 {
     static const uint8_t near[] = {'/', ':', '@', '[', '`', 'a', 'z', '{', '0', '9', 'A', 'Z',
-                                   '=', ' ', 0, 255};
+                                   '=', ' ', '_', '%', '^', '?', 31, 0, 255};
     return one_in(3) ? (uint8_t)draw() : near[below(sizeof near)];
 }
 
@@ -237,7 +237,7 @@ static void make_range(struct made *m)
         make_table(m->bytes[i], &m->r.n[i], m->bytes[2], m->r.n[2]);
 }
 
-/* ---- Track 2 ------------------------------------------------------------ */
+/* ---- The tracks --------------------------------------------------------- */
 
 /* A stream of bits, one to a byte, before it is packed. */
 struct bits {
@@ -251,24 +251,45 @@ static void add_zeros(struct bits *s, size_t count)
     s->n += count;
 }
 
-static void add_character(struct bits *s, unsigned number)
+static void add_number(const struct track *t, struct bits *s, unsigned number)
 {
-    for (unsigned i = 0; i < 5; i++)
-        s->bit[s->n++] = with_parity(number) >> i & 1;
+    for (unsigned i = 0; i < t->width; i++)
+        s->bit[s->n++] = with_parity(t, number) >> i & 1;
+}
+
+static unsigned draw_number(const struct track *t)
+{
+    return below(1u << (t->width - 1));
+}
+
+/* A bit of the last character that may be the end flipped, or the track cut off
+ * in it, where a track that begins at this place reaches so far. */
+static void spoil_last(const struct track *t, struct bits *s, size_t begin)
+{
+    size_t at = begin + (t->most + 1) * t->width + below(t->width);
+    if (at >= s->n)
+        return;
+    if (one_in(2))
+        s->bit[at] ^= 1;
+    else
+        s->n = at;
 }
 
 /* Start, characters, end and LRC; now and then without an end, or a wrong LRC. */
-static void add_track(struct bits *s, const uint8_t *chars, size_t n)
+static void add_track(const struct track *t, struct bits *s, const uint8_t *chars, size_t n)
 {
-    unsigned lrc = 11 ^ 15;
-    add_character(s, 11);
+    size_t begin = s->n;
+    unsigned end = number_of(t, t->end), lrc = number_of(t, t->start) ^ end;
+    add_number(t, s, number_of(t, t->start));
     for (size_t i = 0; i < n; i++) {
-        add_character(s, (chars[i] - '0') & 15);
-        lrc ^= (chars[i] - '0') & 15;
+        add_number(t, s, number_of(t, chars[i]));
+        lrc ^= number_of(t, chars[i]);
     }
     if (!one_in(30))
-        add_character(s, 15);
-    add_character(s, one_in(30) ? below(16) : lrc);
+        add_number(t, s, end);
+    add_number(t, s, one_in(30) ? draw_number(t) : lrc);
+    if (one_in(12))
+        spoil_last(t, s, begin);
 }
 
 static size_t clocking_zeros(void)
@@ -298,7 +319,7 @@ static void spoil_bits(struct bits *s)
 /* Zeros up to a count at the bound of 4,096 bits. */
 static void stretch(struct bits *s)
 {
-    size_t want = 4095 + below(3);
+    size_t want = 4094 + below(4);
     if (s->n < want)
         add_zeros(s, want - s->n);
     if (one_in(3))
@@ -316,13 +337,13 @@ static void pack(const struct bits *s, uint8_t *bytes, size_t *n, uint64_t *bits
         *bits = one_in(2) ? 8 * *n + below(3) : draw() >> below(64);
 }
 
-static void make_stream(uint8_t *bytes, size_t *n, uint64_t *bits, const uint8_t *chars,
-                        size_t chars_n)
+/* The stream of a track, lent in buffer 0. */
+static void make_stream(struct made *m, const struct track *t, const uint8_t *chars, size_t n)
 {
     static struct bits s;
     s.n = 0;
     add_zeros(&s, clocking_zeros());
-    add_track(&s, chars, chars_n);
+    add_track(t, &s, chars, n);
     add_zeros(&s, clocking_zeros());
     if (one_in(2))
         reverse(&s);
@@ -330,69 +351,139 @@ static void make_stream(uint8_t *bytes, size_t *n, uint64_t *bits, const uint8_t
         stretch(&s);
     if (one_in(4))
         spoil_bits(&s);
-    pack(&s, bytes, n, bits);
+    pack(&s, m->bytes[0], &m->r.n[0], &m->r.bits);
 }
 
-static void make_random_stream(struct made *m)
+static void make_random_stream(struct made *m, const struct track *t)
 {
     m->r.n[0] = below(one_in(20) ? 520 : 40);
     fill_any(m->bytes[0], m->r.n[0]);
     m->r.bits = 8 * m->r.n[0] - below(m->r.n[0] ? 8 : 1);
     if (m->r.n[0] && one_in(2))
-        m->bytes[0][0] = 0x0b;
+        m->bytes[0][0] = (uint8_t)with_parity(t, number_of(t, t->start));
 }
 
-static void make_track2(struct made *m)
+/* A character of a track, rarely its end. */
+static uint8_t draw_character(const struct track *t)
 {
-    uint8_t chars[48];
-    size_t n = one_in(3) ? 34 + below(8) : below(42);
+    uint8_t c;
+    do
+        c = (uint8_t)(t->zero + draw_number(t));
+    while (c == t->end && !one_in(10));
+    return c;
+}
+
+/* Characters of track 1 whose track reads both ways round: '\\', whose bits are
+ * those of the end, last first, and an even number of others whose exclusive or is
+ * that of ' ' and 'W'. So the LRC's bits are those of the start, last first, and
+ * the track read reversed has the same shape. */
+static size_t fill_both_ways(uint8_t *s)
+{
+    size_t n = 1 + 2 * (size_t)between(1, 37);
+    unsigned last = number_of(&track1, 'W');
+    s[0] = '\\';
+    for (size_t i = 1; i + 1 < n; i++) {
+        s[i] = draw_character(&track1);
+        last ^= number_of(&track1, s[i]);
+    }
+    s[n - 1] = (uint8_t)(track1.zero + last);
+    return n;
+}
+
+static size_t fill_track(const struct track *t, uint8_t *s)
+{
+    size_t n = one_in(3) ? t->most - 3 + below(8) : below(t->most + 5);
     for (size_t i = 0; i < n; i++)
-        chars[i] = (uint8_t)('0' + below(one_in(20) ? 16 : 15));
+        s[i] = draw_character(t);
+    return n;
+}
+
+static void make_track(struct made *m)
+{
+    const struct track *t = m->r.call == TRACK1_READ ? &track1 : &track2;
+    uint8_t chars[96];
+    size_t n = t == &track1 && one_in(12) ? fill_both_ways(chars) : fill_track(t, chars);
     if (one_in(12))
-        make_random_stream(m);
+        make_random_stream(m, t);
     else
-        make_stream(m->bytes[0], &m->r.n[0], &m->r.bits, chars, n);
-    m->r.n[1] = one_in(4) ? below(45) : 36 + below(4);
+        make_stream(m, t, chars, n);
+    m->r.n[1] = one_in(4) ? below(t->most + 8) : t->most - 1 + below(4);
     fill_any(m->bytes[1], m->r.n[1]);
 }
 
 /* ---- Layout ------------------------------------------------------------- */
 
-/* A field of n digits, or '=' for none. */
-static size_t add_field(uint8_t *s, size_t n)
+/* A field of n digits, or the mark for none. */
+static size_t add_field(const struct track *t, uint8_t *s, size_t n)
 {
     if (one_in(4)) {
-        s[0] = '=';
+        s[0] = t->mark;
         return 1;
     }
     fill_digits(s, n);
     return n;
 }
 
-/* The characters of a card: PAN, '=', expiry, service code, discretionary data. */
-static size_t make_characters(uint8_t *s)
+static size_t add_expiry(const struct track *t, uint8_t *s)
 {
-    size_t n;
-    make_pan(s, &n);
-    s[n++] = '=';
-    size_t expiry = add_field(s + n, 4);
-    if (expiry == 4 && !one_in(8)) {
+    size_t n = add_field(t, s, 4);
+    if (n == 4 && !one_in(8)) {
         unsigned month = one_in(6) ? below(14) : between(1, 12);
-        s[n + 2] = (uint8_t)('0' + month / 10);
-        s[n + 3] = (uint8_t)('0' + month % 10);
+        s[2] = (uint8_t)('0' + month / 10);
+        s[3] = (uint8_t)('0' + month % 10);
     }
-    n += expiry;
-    n += add_field(s + n, 3);
-    size_t rest = below(12);
-    fill_digits(s + n, rest);
-    n += rest;
+    return n;
+}
+
+/* Characters of a name, or of track 1's discretionary data. */
+static void fill_named(uint8_t *s, size_t n)
+{
+    for (size_t i = 0; i < n; i++)
+        do
+            s[i] = (uint8_t)between(' ', '_');
+        while (s[i] == '%' || s[i] == '^' || s[i] == '?');
+}
+
+static size_t add_name(uint8_t *s)
+{
+    size_t n = one_in(2) ? length_around(2, 26) : between(2, 26);
+    fill_named(s, n);
+    spoil_one_in(12, s, &n);
+    s[n++] = '^';
+    return n;
+}
+
+/* Discretionary data behind n characters: some, or as much as fills the track. */
+static size_t add_rest(const struct track *t, uint8_t *s, size_t n)
+{
+    size_t rest = one_in(4) && n < t->most ? t->most - n + below(3) - 1 : below(12);
+    t == &track1 ? fill_named(s, rest) : fill_digits(s, rest);
+    return rest;
+}
+
+/* The characters of a card: PAN, mark, expiry, service code, discretionary data;
+ * of track 1 with a format code before the PAN and a name after it. */
+static size_t make_characters(const struct track *t, uint8_t *s)
+{
+    size_t n = 0, pan_n;
+    if (t == &track1)
+        s[n++] = one_in(30) ? odd_byte() : 'B';
+    make_pan(s + n, &pan_n);
+    n += pan_n;
+    s[n++] = t->mark;
+    if (t == &track1)
+        n += add_name(s + n);
+    n += add_expiry(t, s + n);
+    n += add_field(t, s + n, 3);
+    n += add_rest(t, s + n, n);
     spoil_one_in(6, s, &n);
     return n;
 }
 
 static void make_layout(struct made *m)
 {
-    m->r.n[0] = make_characters(m->bytes[0]);
+    const struct track *t = m->r.call == LAYOUT1_READ ? &track1 : &track2;
+    m->r.n[0] = make_characters(t, m->bytes[0]);
     if (one_in(8))
         m->r.n[0] = below((uint32_t)m->r.n[0] + 1);
     spoil_one_in(6, m->bytes[0], &m->r.n[0]);
@@ -661,7 +752,7 @@ static void make_journal_call(struct made *m)
     make_rest_of_journal_call(m, newest);
 }
 
-/* ---- The swipe ---------------------------------------------------------- */
+/* ---- The swipes --------------------------------------------------------- */
 
 /* The length of the run of digits that starts a text. */
 static size_t digits_of(const uint8_t *s, size_t n)
@@ -675,13 +766,14 @@ static size_t digits_of(const uint8_t *s, size_t n)
 /* What a swipe is given beside the journal. */
 static void make_rest_of_swipe(struct made *m)
 {
-    uint8_t chars[64];
-    size_t n = make_characters(chars);
+    const struct track *t = m->r.call == SWIPE1 ? &track1 : &track2;
+    uint8_t chars[128];
+    size_t n = make_characters(t, chars), pan_at = t == &track1;
     make_payment(m);
-    make_stream(m->bytes[0], &m->r.n[0], &m->r.bits, chars, n);
+    make_stream(m, t, chars, n);
     for (int i = 1; i < 3; i++)
-        make_table(m->bytes[i], &m->r.n[i], chars, digits_of(chars, n));
-    m->r.n[3] = one_in(12) ? below(37) : 37 + below(4);
+        make_table(m->bytes[i], &m->r.n[i], chars + pan_at, digits_of(chars + pan_at, n - pan_at));
+    m->r.n[3] = one_in(12) ? below(t->most) : t->most + below(4);
     fill_any(m->bytes[3], m->r.n[3]);
 }
 
@@ -693,19 +785,25 @@ static void make_swipe(struct made *m)
 
 /* ---- Requests ----------------------------------------------------------- */
 
+static bool is_swipe(enum call call)
+{
+    return call == SWIPE || call == SWIPE1;
+}
+
 int journal_buffer(enum call call)
 {
-    return call == SWIPE ? 4 : call >= JOURNAL_BOOK ? 0 : -1;
+    return is_swipe(call) ? 4 : call >= JOURNAL_BOOK ? 0 : -1;
 }
 
 void make_request(struct made *m, enum call call)
 {
     static void (*const makers[CALLS])(struct made *) = {
         [LUHN_TEST] = make_luhn_test, [LUHN_MAKE] = make_luhn_body, [PAN_MASK] = make_mask,
-        [RANGE_FIND] = make_range, [TRACK2_READ] = make_track2, [LAYOUT_READ] = make_layout,
+        [RANGE_FIND] = make_range, [TRACK2_READ] = make_track, [LAYOUT_READ] = make_layout,
+        [TRACK1_READ] = make_track, [LAYOUT1_READ] = make_layout,
         [IBAN_TEST] = make_iban_test, [IBAN_MAKE] = make_iban_body,
         [CREDITOR_TEST] = make_creditor_test, [CREDITOR_MAKE] = make_creditor_body,
-        [SWIPE] = make_swipe,
+        [SWIPE] = make_swipe, [SWIPE1] = make_swipe,
     };
     memset(&m->r, 0, sizeof m->r);
     m->r.call = call;
@@ -740,15 +838,16 @@ static uint32_t newest_of(const uint8_t *journal, size_t n)
 void make_next_request(struct made *m, const uint8_t *journal, size_t journal_n)
 {
     static const enum call steps[] = {
-        JOURNAL_BOOK, JOURNAL_BOOK, JOURNAL_BOOK, SWIPE, SWIPE, JOURNAL_RELEASE, JOURNAL_RELEASE,
-        JOURNAL_SHOW, JOURNAL_TELL, JOURNAL_WALK, WALK_START, WALK_STEP, JOURNAL_SURVEY,
+        JOURNAL_BOOK, JOURNAL_BOOK, JOURNAL_BOOK, SWIPE, SWIPE, SWIPE1, SWIPE1, JOURNAL_RELEASE,
+        JOURNAL_RELEASE, JOURNAL_SHOW, JOURNAL_TELL, JOURNAL_WALK, WALK_START, WALK_STEP,
+        JOURNAL_SURVEY,
     };
     memset(&m->r, 0, sizeof m->r);
     m->r.call = steps[below(sizeof steps / sizeof steps[0])];
     int at = journal_buffer(m->r.call);
     memcpy(m->bytes[at], journal, journal_n);
     m->r.n[at] = journal_n;
-    if (m->r.call == SWIPE)
+    if (is_swipe(m->r.call))
         make_rest_of_swipe(m);
     else
         make_rest_of_journal_call(m, newest_of(journal, journal_n));

@@ -21,8 +21,8 @@
 enum { STEPS = 48, HISTORY = CALLS, KINDS = CALLS + 1, PATIENCE = 60, ENOUGH = 1000000 };
 
 /* How many buffers each call is lent. */
-static const int call_buffers[CALLS] = {0, 1, 1, 2, 3, 2, 1, 1, 2, 1, 1, 2, 1, 1, 1, 1, 1, 1,
-                                        2, 5};
+static const int call_buffers[CALLS] = {0, 1, 1, 2, 3, 2, 1, 2, 1, 1, 2, 1, 1, 2, 1, 1, 1, 1,
+                                        1, 1, 2, 5, 5};
 
 static uint64_t seed = 1;
 static uint64_t case_number;

@@ -18,6 +18,8 @@ static uint32_t text_call(const struct request *r, struct lent *l)
     case RANGE_FIND: return gw_range_find(b[0], n[0], b[1], n[1], b[2], n[2], &w[0], &w[1]);
     case TRACK2_READ: return gw_track2_read(b[0], n[0], r->bits, b[1], n[1], &w[0], &w[1]);
     case LAYOUT_READ: return gw_layout_read(b[0], n[0], &w[0], &w[1], &w[2], &w[3]);
+    case TRACK1_READ: return gw_track1_read(b[0], n[0], r->bits, b[1], n[1], &w[0], &w[1]);
+    case LAYOUT1_READ: return gw_layout1_read(b[0], n[0], &w[0], &w[1], &w[2], &w[3], &w[4]);
     case IBAN_TEST: return gw_iban_test(b[0], n[0]);
     case IBAN_MAKE: return gw_iban_make(b[0], n[0], b[1], n[1], &w[0]);
     case CREDITOR_TEST: return gw_creditor_test(b[0], n[0]);
@@ -49,8 +51,9 @@ static uint32_t journal_call(const struct request *r, struct lent *l)
     case JOURNAL_SURVEY:
         return gw_journal_survey(b[0], n[0], b[1], n[1], &w[0]);
     default:
-        return gw_swipe(b[0], n[0], r->bits, b[1], n[1], b[2], n[2], r->amount, r->clock,
-                        b[3], n[3], b[4], n[4], &w[0]);
+        return (r->call == SWIPE ? gw_swipe : gw_swipe1)(
+            b[0], n[0], r->bits, b[1], n[1], b[2], n[2], r->amount, r->clock,
+            b[3], n[3], b[4], n[4], &w[0]);
     }
 }
 

@@ -9,12 +9,13 @@
 
 enum call {
     VERSION, LUHN_TEST, LUHN_MAKE, PAN_MASK, RANGE_FIND, TRACK2_READ, LAYOUT_READ,
+    TRACK1_READ, LAYOUT1_READ,
     IBAN_TEST, IBAN_MAKE, CREDITOR_TEST, CREDITOR_MAKE,
     JOURNAL_BOOK, JOURNAL_RELEASE, JOURNAL_SHOW, JOURNAL_TELL, JOURNAL_WALK,
-    WALK_START, WALK_STEP, JOURNAL_SURVEY, SWIPE, CALLS
+    WALK_START, WALK_STEP, JOURNAL_SURVEY, SWIPE, SWIPE1, CALLS
 };
 
-enum { BUFFERS = 5, WORDS = 4 };
+enum { BUFFERS = 5, WORDS = 5 };
 
 /* What goes in, the bytes of the lent buffers apart: the buffers stand in the
  * order in which the call takes them. */

@@ -7,28 +7,40 @@ void put_number(uint8_t *s, unsigned bytes, uint64_t v)
         s[i] = (uint8_t)(v >> 8 * i);
 }
 
-unsigned with_parity(unsigned number)
+const struct track track1 = {7, ' ', '%', '?', 76, '^'};
+const struct track track2 = {5, '0', ';', '?', 37, '='};
+
+unsigned number_of(const struct track *t, uint8_t character)
 {
-    unsigned ones = number ^ number >> 1 ^ number >> 2 ^ number >> 3;
-    return number | (~ones & 1) << 4;
+    return (unsigned)(character - t->zero) & ((1u << (t->width - 1)) - 1);
 }
 
-static void put_five(uint8_t *stream, size_t at, unsigned five)
+unsigned with_parity(const struct track *t, unsigned number)
 {
-    for (size_t i = 0; i < 5; i++)
-        stream[(at + i) / 8] |= (uint8_t)((five >> i & 1) << (at + i) % 8);
+    unsigned parity = 1;
+    for (unsigned i = 0; i + 1 < t->width; i++)
+        parity ^= number >> i & 1;
+    return number | parity << (t->width - 1);
 }
 
-unsigned put_track(uint8_t *stream, const char *chars)
+/* The character at a place of a track. */
+static void put_character(const struct track *t, uint8_t *stream, size_t place, unsigned number)
+{
+    size_t at = t->width * place;
+    for (size_t i = 0; i < t->width; i++)
+        stream[(at + i) / 8] |= (uint8_t)((with_parity(t, number) >> i & 1) << (at + i) % 8);
+}
+
+unsigned put_track(const struct track *t, uint8_t *stream, const char *chars)
 {
     unsigned lrc = 0;
     size_t n = strlen(chars);
     for (size_t i = 0; i < n; i++) {
-        unsigned number = (unsigned)(chars[i] - '0');
-        put_five(stream, 5 * i, with_parity(number));
+        unsigned number = number_of(t, (uint8_t)chars[i]);
+        put_character(t, stream, i, number);
         lrc ^= number;
     }
-    put_five(stream, 5 * n, with_parity(lrc));
+    put_character(t, stream, n, lrc);
     return lrc;
 }
 

@@ -12,12 +12,23 @@ enum { SLOT = 32 };
 /* A number, lowest byte first. */
 void put_number(uint8_t *s, unsigned bytes, uint64_t v);
 
-/* The five bits of a character's number, its parity bit highest. */
-unsigned with_parity(unsigned number);
+/* How a track is written. */
+struct track {
+    unsigned width;           /* bits of a character, its parity bit the last */
+    uint8_t zero, start, end; /* the bytes of number 0 and of the sentinels */
+    uint32_t most;            /* the most characters between the sentinels */
+    uint8_t mark;             /* between the fields of a card */
+};
+
+extern const struct track track1, track2;
+
+/* A character's number, and its bits, the parity bit highest. */
+unsigned number_of(const struct track *t, uint8_t character);
+unsigned with_parity(const struct track *t, unsigned number);
 
 /* The bits of characters, sentinels included, and of their LRC, into a stream
  * of zeros; the LRC itself. */
-unsigned put_track(uint8_t *stream, const char *chars);
+unsigned put_track(const struct track *t, uint8_t *stream, const char *chars);
 
 /* A range table's record. */
 struct range {

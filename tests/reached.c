@@ -8,25 +8,27 @@ enum { REASONS = 21, OTHER = REASONS, NUMBERS, BITS = 4100 };
 
 const char *const call_names[CALLS] = {
     "version", "luhn_test", "luhn_make", "pan_mask", "range_find", "track2_read", "layout_read",
-    "iban_test", "iban_make", "creditor_test", "creditor_make",
+    "track1_read", "layout1_read", "iban_test", "iban_make", "creditor_test", "creditor_make",
     "journal_book", "journal_release", "journal_show", "journal_tell", "journal_walk",
-    "walk_start", "walk_step", "journal_survey", "swipe",
+    "walk_start", "walk_step", "journal_survey", "swipe", "swipe1",
 };
 
-/* The reasons that document 01 gives for each call, a bit for each number. */
+/* The reasons that the paper gives for each call, a bit for each number. */
 #define R(n) (UINT32_C(1) << (n))
 #define READING (R(7) | R(8) | R(9) | R(10) | R(11) | R(12) | R(13))
+#define SWIPING (R(1) | R(4) | R(6) | READING | R(14) | R(15) | R(16) | R(17) | R(18) | R(19))
 static const uint32_t call_reasons[CALLS] = {
     [LUHN_TEST] = R(2) | R(3) | R(4), [LUHN_MAKE] = R(2) | R(3),
     [PAN_MASK] = R(1) | R(2) | R(3), [RANGE_FIND] = R(2) | R(3) | R(14) | R(15),
     [TRACK2_READ] = R(1) | READING, [LAYOUT_READ] = R(6),
+    [TRACK1_READ] = R(1) | READING, [LAYOUT1_READ] = R(6),
     [IBAN_TEST] = R(2) | R(3) | R(4) | R(5) | R(6), [IBAN_MAKE] = R(2) | R(3) | R(5) | R(6),
     [CREDITOR_TEST] = R(2) | R(3) | R(4) | R(6), [CREDITOR_MAKE] = R(2) | R(3),
     [JOURNAL_BOOK] = R(2) | R(3) | R(4) | R(16) | R(17) | R(18) | R(19),
     [JOURNAL_RELEASE] = R(16) | R(20), [JOURNAL_SHOW] = R(16) | R(20), [JOURNAL_TELL] = R(16),
     [JOURNAL_WALK] = R(16), [WALK_START] = R(16), [WALK_STEP] = R(20),
     [JOURNAL_SURVEY] = R(1) | R(16),
-    [SWIPE] = R(1) | R(4) | R(6) | READING | R(14) | R(15) | R(16) | R(17) | R(18) | R(19),
+    [SWIPE] = SWIPING, [SWIPE1] = SWIPING,
 };
 
 /* The lengths, first to last by a step, that a lent buffer must have had. */
@@ -44,6 +46,8 @@ static const struct lengths call_lengths[] = {
     {RANGE_FIND, 2, 0, 22, 1},
     {TRACK2_READ, 0, 0, 39, 1}, {TRACK2_READ, 0, 511, 513, 1}, {TRACK2_READ, 1, 0, 44, 1},
     {LAYOUT_READ, 0, 0, 37, 1},
+    {TRACK1_READ, 0, 0, 80, 1}, {TRACK1_READ, 0, 511, 513, 1}, {TRACK1_READ, 1, 0, 83, 1},
+    {LAYOUT1_READ, 0, 0, 78, 1},
     {IBAN_TEST, 0, 0, 37, 1}, {IBAN_MAKE, 0, 0, 4, 1}, {IBAN_MAKE, 1, 0, 33, 1},
     {CREDITOR_TEST, 0, 0, 28, 1}, {CREDITOR_MAKE, 0, 0, 24, 1},
     {JOURNAL_BOOK, 0, 0, 65, 1}, {JOURNAL_BOOK, 0, 65504, 65568, 32},
@@ -58,6 +62,8 @@ static const struct lengths call_lengths[] = {
     {JOURNAL_SURVEY, 1, 0, 42, 1}, {JOURNAL_SURVEY, 1, 2047, 2049, 1},
     {SWIPE, 1, 0, 66, 1}, {SWIPE, 1, 65520, 65552, 16}, {SWIPE, 2, 65535, 65537, 1},
     {SWIPE, 3, 0, 40, 1}, {SWIPE, 4, 0, 65, 1}, {SWIPE, 4, 65504, 65568, 32},
+    {SWIPE1, 1, 0, 66, 1}, {SWIPE1, 1, 65520, 65552, 16}, {SWIPE1, 2, 65535, 65537, 1},
+    {SWIPE1, 3, 0, 79, 1}, {SWIPE1, 4, 0, 65, 1}, {SWIPE1, 4, 65504, 65568, 32},
 };
 
 static uint64_t reached[CALLS][NUMBERS];
@@ -143,11 +149,12 @@ static bool run_reached(const struct lengths *l)
     return all;
 }
 
-static bool bits_reached(enum call call)
+/* The counts up to a full track and some zeros around it, and those at the bound. */
+static bool bits_reached(enum call call, int full)
 {
     bool all = true;
     for (int bits = 0; bits < BITS; bits++) {
-        bool asked = bits < 250 || (bits >= 4094 && bits <= 4097);
+        bool asked = bits < full || (bits >= 4094 && bits <= 4097);
         if (asked && !had_bits[call][bits]) {
             printf("%s: never %d bits\n", call_names[call], bits);
             all = false;
@@ -158,7 +165,8 @@ static bool bits_reached(enum call call)
 
 bool lengths_reached(void)
 {
-    bool all = bits_reached(TRACK2_READ) & bits_reached(SWIPE);
+    bool all = bits_reached(TRACK2_READ, 250) & bits_reached(SWIPE, 250)
+             & bits_reached(TRACK1_READ, 600) & bits_reached(SWIPE1, 600);
     for (size_t i = 0; i < sizeof call_lengths / sizeof call_lengths[0]; i++)
         all = run_reached(&call_lengths[i]) && all;
     return all;

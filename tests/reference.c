@@ -1,13 +1,15 @@
 /*
- * A second implementation of document 01 in plain C, written from the paper
- * alone. The tests hold the library against it, call by call and byte by byte;
- * the benchmark runs it as the plain C beside the library.
+ * A second implementation of document 01, and of request E1 of document 02, in
+ * plain C, written from the paper alone. The tests hold the library against it,
+ * call by call and byte by byte; the benchmark runs it as the plain C beside the
+ * library.
  *
  * It defines the functions of goltwarden.h, so that the compiler holds it to the
  * header. tests/toolchain.sh gives them the prefix ref_ where both are linked.
  *
  * -DWRONG=k makes one of the wrong references that the tests must catch: each
- * SLIP(k, right, wrong) is `right`, and `wrong` in the reference number k.
+ * SLIP(k, right, wrong) is `right`, and `wrong` in the reference number k; each
+ * SLIP_ONE is so where the track `t` is track 1, and right for track 2.
  */
 #include <stdbool.h>
 #include <string.h>
@@ -17,10 +19,11 @@
 #define WRONG 0
 #endif
 #define SLIP(k, right, wrong) (WRONG == (k) ? (wrong) : (right))
+#define SLIP_ONE(k, right, wrong) (WRONG == (k) && t == &track1 ? (wrong) : (right))
 
 uint32_t gw_version(void)
 {
-    return 2;
+    return 3;
 }
 
 /* ---- Bytes and numbers -------------------------------------------------- */
@@ -225,7 +228,42 @@ uint32_t gw_range_find(const uint8_t *site, size_t site_n,
     return 0;
 }
 
-/* ---- Track 2 from bits -------------------------------------------------- */
+/* ---- The tracks --------------------------------------------------------- */
+
+/* A character of track 1's name or discretionary data. */
+static bool is_named(uint8_t c)
+{
+    return within(' ', SLIP(51, '_', 'z'), c) && c != '%' && c != '^' && c != SLIP(52, '?', '%');
+}
+
+/* What differs between the tracks. */
+struct track {
+    unsigned width;      /* bits of a character, its parity bit the last */
+    unsigned start, end; /* the sentinels' bits, the first lowest */
+    uint8_t zero;        /* the byte that number 0 stands for */
+    uint32_t most;       /* the most characters between the sentinels */
+    bool named;          /* a format code stands before the PAN, a name after it */
+    uint8_t mark;        /* behind PAN and name, and for a field that is absent */
+    kind *rest;          /* what discretionary data may hold */
+};
+
+static const struct track track2 = {5, 0x0b, 0x1f, '0', 37, false, '=', is_digit};
+static const struct track track1 = {7, 0x45, 0x1f, ' ', 76, true, '^', is_named};
+
+enum { MOST = 76 }; /* characters of either track */
+
+/* What stands here once over the track is compiled once for each track, as if it had
+ * been written for it: the benchmark's plain C isn't to pay for standing once. */
+#define OVER_TRACK static inline __attribute__((always_inline))
+
+/* ---- A track from bits -------------------------------------------------- */
+
+/* The lent bytes and how many of their bits count. */
+struct stripe {
+    const uint8_t *bytes;
+    size_t n;
+    uint64_t bits;
+};
 
 struct stream {
     const uint8_t *bytes;
@@ -245,27 +283,34 @@ static unsigned next_bit(const struct stream *s)
     return s->bytes[i / 8] >> (i % 8) & 1;
 }
 
-/* Five bits, the first lowest. */
-static unsigned next_five(struct stream *s)
+/* As many bits as a character has, the first lowest. */
+static unsigned next_bits(const struct track *t, struct stream *s)
 {
-    unsigned five = 0;
-    for (unsigned i = 0; i < 5; i++, s->next++)
-        five |= next_bit(s) << i;
-    return five;
+    unsigned bits = 0;
+    for (unsigned i = 0; i < t->width; i++, s->next++)
+        bits |= next_bit(s) << i;
+    return bits;
 }
 
-static bool odd_parity(unsigned five)
+static bool odd_parity(unsigned bits)
 {
-    return (five ^ five >> 1 ^ five >> 2 ^ five >> 3 ^ five >> 4) & 1;
+    bits ^= bits >> 4; /* of at most eight bits */
+    bits ^= bits >> 2;
+    return (bits ^ bits >> 1) & 1;
 }
 
-/* The next character: its five bits in *five, or 9 or 10. */
-static uint32_t next_character(struct stream *s, unsigned *five)
+/* The next character: its bits in *bits, or 9 or 10. */
+static uint32_t next_character(const struct track *t, struct stream *s, unsigned *bits)
 {
-    if (bits_left(s) < 5)
+    if (bits_left(s) < t->width)
         return 9;
-    *five = next_five(s);
-    return odd_parity(*five) ? 0 : 10;
+    *bits = next_bits(t, s);
+    return odd_parity(*bits) ? 0 : 10;
+}
+
+static unsigned data_of(const struct track *t, unsigned bits)
+{
+    return bits & ((1u << (t->width - 1)) - 1);
 }
 
 /* The stream moved to its first one bit, or to its end. */
@@ -275,72 +320,71 @@ static void skip_zeros(struct stream *s)
         s->next++;
 }
 
-enum { START = 0x0b, END = 0x1f, DATA = 0x0f };
-
-/* The LRC character, after characters whose data bits gave this exclusive or,
- * and the zeros after it. */
-static uint32_t read_lrc(struct stream *s, unsigned all)
+/* The LRC character, after characters whose bits gave this exclusive or, and the
+ * zeros after it. */
+static uint32_t read_lrc(const struct track *t, struct stream *s, unsigned all)
 {
-    unsigned five;
-    uint32_t refusal = next_character(s, &five);
+    unsigned bits;
+    uint32_t refusal = next_character(t, s, &bits);
     if (refusal)
         return refusal;
-    if (((five ^ all) & SLIP(13, (unsigned)DATA, 0x1fu)) != 0)
+    unsigned off = bits ^ all;
+    if (SLIP_ONE(53, SLIP(13, data_of(t, off), off), off) != 0)
         return 12;
     skip_zeros(s);
     return bits_left(s) == 0 ? 0 : SLIP(12, 13, 0);
 }
 
 /* Reading one way: the characters between the sentinels in `out`. */
-static uint32_t read_one_way(struct stream *s, uint8_t *out, uint32_t *count)
+static uint32_t read_one_way(const struct track *t, struct stream *s, uint8_t *out,
+                             uint32_t *count)
 {
-    unsigned five = START, all = START;
+    unsigned bits, all = t->start;
+    uint32_t most = SLIP_ONE(54, SLIP(15, t->most, t->most - 1), 37);
     skip_zeros(s);
-    if (bits_left(s) < 5 || next_five(s) != START)
+    if (bits_left(s) < t->width || next_bits(t, s) != t->start)
         return 8;
     for (uint32_t n = 0; ; n++) {
-        uint32_t refusal = next_character(s, &five);
+        uint32_t refusal = next_character(t, s, &bits);
         if (refusal)
-            return refusal;
-        all ^= SLIP(14, five, five == END ? 0 : five);
-        if (five == END) {
+            return SLIP_ONE(55, refusal, n == most ? 11 : refusal);
+        all ^= SLIP(14, bits, bits == t->end ? 0 : bits);
+        if (bits == t->end) {
             *count = n;
-            return read_lrc(s, all);
+            return read_lrc(t, s, all);
         }
-        if (n == SLIP(15, 37, 36))
+        if (n == most)
             return 11;
-        out[n] = (uint8_t)('0' + (five & DATA));
+        out[n] = (uint8_t)(t->zero + data_of(t, bits));
     }
 }
 
-/* Reading either way round, into characters of its own. */
-static uint32_t read_track(const uint8_t *bytes, size_t n, uint64_t bits,
-                           uint8_t chars[38], uint32_t *count, bool *reversed)
+/* Reading either way round, forward first, into characters of its own. */
+OVER_TRACK uint32_t read_track(const struct track *t, const struct stripe *from,
+                               uint8_t chars[MOST], uint32_t *count, bool *reversed)
 {
-    if (bits > SLIP(16, 4096, 4095) || bits > 8 * (uint64_t)n)
+    uint32_t refusals[2]; /* forward's and the reversed reading's */
+    if (from->bits > SLIP(16, 4096, 4095) || from->bits > 8 * (uint64_t)from->n)
         return 7;
-    struct stream forward = {bytes, bits, false, 0}, back = {bytes, bits, true, 0};
-    *reversed = false;
-    uint32_t one = read_one_way(&forward, chars, count);
-    if (one == 0)
-        return 0;
-    *reversed = true;
-    uint32_t other = read_one_way(&back, chars, count);
-    if (other == 0)
-        return 0;
-    return SLIP(17, one == 8, false) ? other : one;
+    for (int turn = 0; turn < 2; turn++) {
+        *reversed = SLIP(56, turn == 1, turn == 0);
+        struct stream s = {from->bytes, from->bits, *reversed, 0};
+        refusals[*reversed] = read_one_way(t, &s, chars, count);
+        if (refusals[*reversed] == 0)
+            return 0;
+    }
+    return refusals[SLIP(17, refusals[0] == 8, false)];
 }
 
-uint32_t gw_track2_read(const uint8_t *stream, size_t stream_n, uint64_t bits,
-                        uint8_t *out, size_t out_n,
-                        uint32_t *count, uint32_t *reversed)
+OVER_TRACK uint32_t track_call(const struct track *t, const struct stripe *from,
+                               uint8_t *out, size_t out_n, uint32_t *count, uint32_t *reversed)
 {
-    uint8_t chars[38];
+    uint8_t chars[MOST];
     uint32_t n = 0;
     bool turned;
-    if (out_n < SLIP(18, 37, 38))
+    if (out_n < SLIP_ONE(57, SLIP(18, t->most, t->most + 1), 75))
         return 1;
-    uint32_t refusal = read_track(stream, stream_n, bits, chars, &n, &turned);
+    uint32_t refusal = read_track(t, from, chars, &n, &turned);
     if (refusal)
         return refusal;
     memcpy(out, chars, n);
@@ -349,10 +393,33 @@ uint32_t gw_track2_read(const uint8_t *stream, size_t stream_n, uint64_t bits,
     return 0;
 }
 
+uint32_t gw_track2_read(const uint8_t *stream, size_t stream_n, uint64_t bits,
+                        uint8_t *out, size_t out_n,
+                        uint32_t *count, uint32_t *reversed)
+{
+    struct stripe from = {stream, stream_n, bits};
+    return track_call(&track2, &from, out, out_n, count, reversed);
+}
+
+uint32_t gw_track1_read(const uint8_t *stream, size_t stream_n, uint64_t bits,
+                        uint8_t *out, size_t out_n,
+                        uint32_t *count, uint32_t *reversed)
+{
+    struct stripe from = {stream, stream_n, bits};
+    return track_call(&track1, &from, out, out_n, count, reversed);
+}
+
 /* ---- Layout between the sentinels --------------------------------------- */
 
 struct layout {
-    uint32_t pan_n, expiry_at, service_at, rest_at;
+    uint32_t pan_at, pan_n, name_n, expiry_at, service_at, rest_at;
+};
+
+/* Characters, and the place up to which they are divided. */
+struct text {
+    const uint8_t *chars;
+    size_t n;
+    size_t at;
 };
 
 static bool is_month(const uint8_t *two)
@@ -360,40 +427,58 @@ static bool is_month(const uint8_t *two)
     return within(SLIP(19, 1, 0), 12, decimal(two, 2));
 }
 
-/* A field of n digits at *at, or '=' for none: its offset, 0 for none, in
- * *field, and *at moved past it. */
-static bool read_field(const uint8_t *chars, size_t chars_n, size_t n,
-                       uint32_t *at, uint32_t *field)
+/* The one character wanted, and moved past it. */
+static bool take(struct text *s, uint8_t wanted)
+{
+    bool there = s->at < s->n && s->chars[s->at] == wanted;
+    s->at += there;
+    return there;
+}
+
+/* Low to high characters of a kind and the mark behind them; how many in *count. */
+static bool take_run(struct text *s, kind *is, size_t low, size_t high, uint8_t mark,
+                     uint32_t *count)
+{
+    size_t n = 0;
+    while (s->at + n < s->n && n <= high && is(s->chars[s->at + n]))
+        n++;
+    s->at += n;
+    *count = (uint32_t)n;
+    return within(low, high, n) && take(s, mark);
+}
+
+/* A field of n digits, or the mark for none: its offset, 0 for none, in *field. */
+static bool take_field(struct text *s, size_t n, uint8_t mark, uint32_t *field)
 {
     *field = 0;
-    if (*at < chars_n && chars[*at] == '=') {
-        *at += 1;
+    if (take(s, mark))
         return true;
-    }
-    if (chars_n - *at < n || !every(is_digit, chars + *at, n))
+    if (s->n - s->at < n || !every(is_digit, s->chars + s->at, n))
         return false;
-    *field = *at;
-    *at += (uint32_t)n;
+    *field = (uint32_t)s->at;
+    s->at += n;
     return true;
 }
 
-static bool read_layout(const uint8_t *chars, size_t n, struct layout *l)
+static bool read_layout(const struct track *t, const uint8_t *chars, size_t n, struct layout *l)
 {
-    uint32_t at = 0;
-    while (at < n && at < 20 && is_digit(chars[at]))
-        at++;
-    l->pan_n = at;
-    if (!within(13, SLIP(20, 19, 18), at) || at == n || chars[at] != '=')
+    struct text s = {chars, n, 0};
+    uint8_t absent = SLIP_ONE(58, t->mark, '=');
+    if (t->named && !take(&s, SLIP(59, 'B', n ? chars[0] : 'B')))
         return false;
-    at++;
-    if (!read_field(chars, n, 4, &at, &l->expiry_at))
+    l->pan_at = (uint32_t)s.at;
+    if (!take_run(&s, is_digit, 13, SLIP(20, 19, 18), t->mark, &l->pan_n))
+        return false;
+    if (t->named && !take_run(&s, is_named, SLIP(60, 2, 1), SLIP(61, 26, 27), t->mark, &l->name_n))
+        return false;
+    if (!take_field(&s, 4, absent, &l->expiry_at))
         return false;
     if (l->expiry_at && !is_month(chars + l->expiry_at + 2))
         return false;
-    if (!read_field(chars, n, 3, &at, &l->service_at))
+    if (!take_field(&s, 3, absent, &l->service_at))
         return false;
-    l->rest_at = at;
-    return every(is_digit, chars + at, n - at);
+    l->rest_at = (uint32_t)s.at;
+    return every(t->rest, chars + s.at, n - s.at);
 }
 
 uint32_t gw_layout_read(const uint8_t *chars, size_t chars_n,
@@ -401,9 +486,24 @@ uint32_t gw_layout_read(const uint8_t *chars, size_t chars_n,
                         uint32_t *service_at, uint32_t *rest_at)
 {
     struct layout l;
-    if (!read_layout(chars, chars_n, &l))
+    if (!read_layout(&track2, chars, chars_n, &l))
         return 6;
     *pan_n = l.pan_n;
+    *expiry_at = l.expiry_at;
+    *service_at = l.service_at;
+    *rest_at = l.rest_at;
+    return 0;
+}
+
+uint32_t gw_layout1_read(const uint8_t *chars, size_t chars_n,
+                         uint32_t *pan_n, uint32_t *name_n, uint32_t *expiry_at,
+                         uint32_t *service_at, uint32_t *rest_at)
+{
+    struct layout l;
+    if (!read_layout(&track1, chars, chars_n, &l))
+        return 6;
+    *pan_n = l.pan_n;
+    *name_n = l.name_n;
     *expiry_at = l.expiry_at;
     *service_at = l.service_at;
     *rest_at = l.rest_at;
@@ -828,39 +928,68 @@ uint32_t gw_journal_survey(const uint8_t *journal, size_t journal_n,
     return 0;
 }
 
-/* ---- The swipe ---------------------------------------------------------- */
+/* ---- The swipes --------------------------------------------------------- */
+
+/* What a swipe is given to read. */
+struct given {
+    struct stripe stripe;
+    struct tables tables;
+    uint32_t amount, clock;
+};
 
 /* What stands before the reading: 16, 14, 17, 19, 18. */
-static uint32_t before_reading(const uint8_t *journal, size_t n, const struct tables *t,
-                               uint32_t amount, struct view *v)
+static uint32_t before_reading(const uint8_t *journal, size_t n, const struct given *g,
+                               struct view *v)
 {
-    if (WRONG == 42 && amount == 0)
+    if (WRONG == 42 && g->amount == 0)
         return 17;
     if (!look(journal, n, v))
         return 16;
-    if (bad_table(t->site_n) || bad_table(t->acquirer_n))
+    if (bad_table(g->tables.site_n) || bad_table(g->tables.acquirer_n))
         return 14;
-    if (amount == 0)
+    if (g->amount == 0)
         return 17;
     return no_room(v);
 }
 
-/* The reading's refusals, 6, 4, 15; or the PAN at the start of `chars`, its
- * length in *l, and its range in *f. */
-static uint32_t read_card(const uint8_t *stream, size_t stream_n, uint64_t bits,
-                          const struct tables *t, uint8_t chars[38],
-                          struct layout *l, struct found *f)
+/* The reading's refusals, 6, 4, 15; or where the PAN stands in `chars`, in *l, and
+ * its range in *f. */
+OVER_TRACK uint32_t read_card(const struct track *t, const struct given *g, uint8_t chars[MOST],
+                              struct layout *l, struct found *f)
 {
     uint32_t count = 0;
     bool reversed;
-    uint32_t refusal = read_track(stream, stream_n, bits, chars, &count, &reversed);
+    uint32_t refusal = read_track(t, &g->stripe, chars, &count, &reversed);
     if (refusal)
         return refusal;
-    if (!read_layout(chars, count, l))
+    if (!read_layout(t, chars, count, l))
         return 6;
-    if (!luhn_passes(chars, l->pan_n))
+    l->pan_at = SLIP(62, l->pan_at, 0);
+    if (!luhn_passes(chars + l->pan_at, l->pan_n))
         return 4;
-    return look_up(t, chars, l->pan_n, f);
+    return look_up(&g->tables, chars + l->pan_at, l->pan_n, f);
+}
+
+OVER_TRACK uint32_t swipe(const struct track *t, const struct given *g,
+                          uint8_t *scratch, size_t scratch_n,
+                          uint8_t *journal, size_t journal_n, uint32_t *serial)
+{
+    struct view v;
+    struct layout l;
+    struct found f;
+    uint8_t chars[MOST];
+    if (scratch_n < SLIP_ONE(63, t->most, 75))
+        return 1;
+    uint32_t refusal = before_reading(journal, journal_n, g, &v);
+    if (WRONG != 43 || !refusal)
+        memset(scratch, 0, SLIP(64, t->most, 37));
+    if (!refusal)
+        refusal = read_card(t, g, chars, &l, &f);
+    if (refusal)
+        return refusal;
+    *serial = book(journal, &v, chars + l.pan_at, l.pan_n, label_of(&g->tables, &f), g->amount,
+                   g->clock);
+    return 0;
 }
 
 uint32_t gw_swipe(const uint8_t *stream, size_t stream_n, uint64_t bits,
@@ -871,20 +1000,20 @@ uint32_t gw_swipe(const uint8_t *stream, size_t stream_n, uint64_t bits,
                   uint8_t *journal, size_t journal_n,
                   uint32_t *serial)
 {
-    struct tables t = {site, site_n, acquirer, acquirer_n};
-    struct view v;
-    struct layout l;
-    struct found f;
-    uint8_t chars[38];
-    if (scratch_n < 37)
-        return 1;
-    uint32_t refusal = before_reading(journal, journal_n, &t, amount, &v);
-    if (WRONG != 43 || !refusal)
-        memset(scratch, 0, 37);
-    if (!refusal)
-        refusal = read_card(stream, stream_n, bits, &t, chars, &l, &f);
-    if (refusal)
-        return refusal;
-    *serial = book(journal, &v, chars, l.pan_n, label_of(&t, &f), amount, clock);
-    return 0;
+    struct given g = {{stream, stream_n, bits}, {site, site_n, acquirer, acquirer_n},
+                      amount, clock};
+    return swipe(&track2, &g, scratch, scratch_n, journal, journal_n, serial);
+}
+
+uint32_t gw_swipe1(const uint8_t *stream, size_t stream_n, uint64_t bits,
+                   const uint8_t *site, size_t site_n,
+                   const uint8_t *acquirer, size_t acquirer_n,
+                   uint32_t amount, uint32_t clock,
+                   uint8_t *scratch, size_t scratch_n,
+                   uint8_t *journal, size_t journal_n,
+                   uint32_t *serial)
+{
+    struct given g = {{stream, stream_n, bits}, {site, site_n, acquirer, acquirer_n},
+                      amount, clock};
+    return swipe(&track1, &g, scratch, scratch_n, journal, journal_n, serial);
 }

@@ -1,9 +1,11 @@
 /*
- * The worked cases of document 01 and known texts, with the answers written out.
- * tests/run runs them against the library, and against the reference too: what
- * judges the library is itself held to the paper's own examples.
+ * The worked cases of document 01, known texts, and cards of track 1 whose bits are
+ * written out by hand, with the answers. tests/run runs them against the library,
+ * and against the reference too: what judges the library is itself held to the
+ * paper's own examples.
  */
 #include <inttypes.h>
+#include <stdbool.h>
 #include <stdio.h>
 #include <string.h>
 #include "encode.h"
@@ -25,6 +27,13 @@ static const uint8_t *bytes(const char *s)
 }
 
 typedef uint32_t text_test(const uint8_t *, size_t);
+
+/* Whether characters of track 1 are divided; into what, is not looked at. */
+static uint32_t divides(const uint8_t *chars, size_t n)
+{
+    uint32_t part[5];
+    return gw_layout1_read(chars, n, &part[0], &part[1], &part[2], &part[3], &part[4]);
+}
 
 struct known {
     text_test *test;
@@ -56,6 +65,40 @@ static const struct known known[] = {
     {gw_iban_test, "DE88370400440532013000", 4},
 #define EXAMPLE(text) {gw_iban_test, text, 0},
 #include "examples.inc"
+    {divides, "B4111111111111111^DOE/JANE^2512101", 0},
+    {divides, "B4111111111111111^DOE/JANE^^^", 0}, /* neither expiry nor service code */
+    {divides, "B4111111111111111^DOE/JANE^2512^", 0},
+    {divides, "B4111111111111111^DOE/JANE^^101", 0},
+    {divides, "B4111111111111111^DOE/JANE^", 6},
+    {divides, "B4111111111111111^DOE/JANE^==", 6},
+    {divides, "A4111111111111111^DOE/JANE^2512101", 6}, /* another format code, and none */
+    {divides, "b4111111111111111^DOE/JANE^2512101", 6},
+    {divides, "4111111111111111^DOE/JANE^2512101", 6},
+    {divides, "", 6},
+    {divides, "B123456789012^DOE/JANE^2512101", 6}, /* PANs of 12, 13, 19 and 20 digits */
+    {divides, "B1234567890123^DOE/JANE^2512101", 0},
+    {divides, "B1234567890123456789^DOE/JANE^2512101", 0},
+    {divides, "B12345678901234567890^DOE/JANE^2512101", 6},
+    {divides, "B4111111111111111^J^2512101", 6}, /* names of 1, 2, 26 and 27 characters */
+    {divides, "B4111111111111111^JD^2512101", 0},
+    {divides, "B4111111111111111^ABCDEFGHIJKLMNOPQRSTUVWXYZ^2512101", 0},
+    {divides, "B4111111111111111^ABCDEFGHIJKLMNOPQRSTUVWXYZ/^2512101", 6},
+    {divides, "B4111111111111111^ !\"#$&'()*+,-./:;<=>@[\\]_^2512101", 0}, /* what a name holds */
+    {divides, "B4111111111111111^DOE^JANE^2512101", 6}, /* and what it doesn't */
+    {divides, "B4111111111111111^DOE%JANE^2512101", 6},
+    {divides, "B4111111111111111^DOE?JANE^2512101", 6},
+    {divides, "B4111111111111111^Doe/Jane^2512101", 6},
+    {divides, "B4111111111111111^DOE`JANE^2512101", 6},
+    {divides, "B4111111111111111^DOE\037JANE^2512101", 6},
+    {divides, "B4111111111111111^DOE/JANE^2500101", 6}, /* months 00, 01 and 13 */
+    {divides, "B4111111111111111^DOE/JANE^2501101", 0},
+    {divides, "B4111111111111111^DOE/JANE^2513101", 6},
+    {divides, "B4111111111111111^DOE/JANE^2512101 _=[A]", 0}, /* discretionary data */
+    {divides, "B4111111111111111^DOE/JANE^2512101^", 6},
+    {divides, "B4111111111111111^DOE/JANE^2512101%", 6},
+    {divides, "B4111111111111111^DOE/JANE^2512101?", 6},
+    {divides, "B4111111111111111^DOE/JANE^2512101fleet", 6},
+    {divides, "B4111111111111111^DOE/JANE^2512101`", 6},
 };
 
 static void known_texts(void)
@@ -72,7 +115,7 @@ static void track(void)
     static const char card[] = ";4111111111111111=2512101?";
     uint8_t stream[32] = {0}, out[37];
     uint32_t count = 0, reversed = 9, part[4];
-    expect("W11's LRC", put_track(stream, card), 8);
+    expect("W11's LRC", put_track(&track2, stream, card), 8);
     expect("W11", gw_track2_read(stream, 17, 135, out, 37, &count, &reversed), 0);
     expect("W11's count", count, 24);
     expect("W11's direction", reversed, 0);
@@ -89,10 +132,105 @@ static void long_tracks(void)
 {
     uint8_t stream[32] = {0}, longer[32] = {0}, out[37];
     uint32_t count, reversed;
-    put_track(stream, ";0123456789012345678901234567890123456?");
-    put_track(longer, ";01234567890123456789012345678901234567?");
+    put_track(&track2, stream, ";0123456789012345678901234567890123456?");
+    put_track(&track2, longer, ";01234567890123456789012345678901234567?");
     expect("40 characters", gw_track2_read(stream, 25, 200, out, 37, &count, &reversed), 0);
     expect("41 characters", gw_track2_read(longer, 26, 205, out, 37, &count, &reversed), 11);
+}
+
+/* ---- Track 1 ------------------------------------------------------------ */
+
+/* A card of ISO/IEC 7813's format B, its bits in the order in which they pass the
+ * head: %B4111111111111111^DOE/JANE^2512101FLEET 7? and the LRC, clocking zeros around. */
+static const char fleet_card[] =
+    "000 1010001 0100011 "                                             /* %B */
+    "0010101 1000101 1000101 1000101 1000101 1000101 1000101 1000101 " /* 41111111 */
+    "1000101 1000101 1000101 1000101 1000101 1000101 1000101 1000101 " /* 11111111 */
+    "0111110 0010011 1111010 1010010 1111001 "                         /* ^DOE/ */
+    "0101010 1000011 0111011 1010010 0111110 "                         /* JANE^ */
+    "0100101 1010100 1000101 0100101 1000101 0000100 1000101 "         /* 2512101 */
+    "0110010 0011010 1010010 1010010 0010110 0000001 1110101 "         /* FLEET 7 */
+    "1111100 1000011 00000";                                           /* ?, LRC A */
+
+/* The characters %\ W? and the LRC 1, which read both ways round. */
+static const char both_ways[] = "1010001 0011111 0000001 1110110 1111100 1000101";
+
+/* Written bits as a stream, the first of them first or last. */
+struct stripe {
+    uint8_t bytes[80];
+    uint64_t bits;
+};
+
+static struct stripe stripe_of(const char *written, bool reversed)
+{
+    struct stripe s = {{0}, 0};
+    size_t n = strlen(written);
+    for (size_t i = 0; i < n; i++) {
+        char bit = written[reversed ? n - 1 - i : i];
+        if (bit == ' ')
+            continue;
+        s.bytes[s.bits / 8] |= (uint8_t)((bit - '0') << s.bits % 8);
+        s.bits++;
+    }
+    return s;
+}
+
+/* The characters that a stream must be read as, and which way round. */
+static void reads(const char *written, bool turned, const char *chars, uint32_t way)
+{
+    struct stripe s = stripe_of(written, turned);
+    uint8_t out[76];
+    uint32_t count = 99, reversed = 99;
+    expect(chars, gw_track1_read(s.bytes, sizeof s.bytes, s.bits, out, 76, &count, &reversed), 0);
+    expect("its count", count, (uint32_t)strlen(chars));
+    expect("its direction", reversed, way);
+    expect("its characters", memcmp(out, chars, strlen(chars)) == 0, 1);
+}
+
+static void track1_reads(void)
+{
+    static const char card[] = "B4111111111111111^DOE/JANE^2512101FLEET 7";
+    uint32_t part[5];
+    reads(fleet_card, false, card, 0);
+    reads(fleet_card, true, card, 1);
+    reads(both_ways, false, "\\ W", 0);
+    reads(both_ways, true, "\\V!", 0);
+    expect("the card divided", gw_layout1_read(bytes(card), strlen(card), &part[0], &part[1],
+                                               &part[2], &part[3], &part[4]), 0);
+    expect("its PAN", part[0], 16);
+    expect("its name", part[1], 8);
+    expect("its expiry", part[2], 27);
+    expect("its service code", part[3], 31);
+    expect("its rest", part[4], 34);
+}
+
+/* Whichever bit of the fleet card is flipped, it no longer reads forward. */
+static void flips(void)
+{
+    struct stripe s = stripe_of(fleet_card, false);
+    uint8_t out[76];
+    uint32_t count, reversed = 0;
+    for (uint64_t i = 0; i < s.bits; i++) {
+        s.bytes[i / 8] ^= (uint8_t)(1 << i % 8);
+        expect("a bit flipped", gw_track1_read(s.bytes, sizeof s.bytes, s.bits, out, 76, &count,
+                                               &reversed) != 0 || reversed == 1, 1);
+        s.bytes[i / 8] ^= (uint8_t)(1 << i % 8);
+    }
+}
+
+/* Tracks of 79 characters, LRC included, and of 80. */
+static void long_tracks1(void)
+{
+    uint8_t stream[70] = {0}, longer[70] = {0}, out[76];
+    uint32_t count, reversed;
+    put_track(&track1, stream, "%B4111111111111111^ABCDEFGHIJKLMNOPQRSTUVWXYZ^2512101"
+                               "ABCDEFGHIJKLMNOPQRSTUVWX?");
+    put_track(&track1, longer, "%B4111111111111111^ABCDEFGHIJKLMNOPQRSTUVWXYZ^2512101"
+                               "ABCDEFGHIJKLMNOPQRSTUVWXY?");
+    expect("79 characters", gw_track1_read(stream, 70, 553, out, 76, &count, &reversed), 0);
+    expect("all that fit", count, 76);
+    expect("75 bytes", gw_track1_read(stream, 70, 553, out, 75, &count, &reversed), 1);
+    expect("80 characters", gw_track1_read(longer, 70, 560, out, 76, &count, &reversed), 11);
 }
 
 /* W12, and PANs of 12, 13, 19 and 20 digits */
@@ -109,18 +247,20 @@ static void masks(void)
     expect("20 digits", gw_pan_mask(digits, 20, out, 20), 2);
 }
 
+/* W13's record. */
+static const uint8_t w13[32] = {1, 0, 0, 0, 0, 0, 0, 0, 0xfa, 0, 0, 0, 7, 0, 0x10, 1,
+                                '4', '1', '1', '1', '1', '1', '1', '1', '1', '1'};
+
 /* W13, then the slot full, released, and booked again. */
 static void journal(void)
 {
-    static const uint8_t right[32] = {1, 0, 0, 0, 0, 0, 0, 0, 0xfa, 0, 0, 0, 7, 0, 0x10, 1,
-                                      '4', '1', '1', '1', '1', '1', '1', '1', '1', '1'};
     const uint8_t *pan = bytes("4111111111111111");
     uint8_t slot[32] = {0};
     uint32_t serial = 0, count = 0;
     uint64_t sum = 0;
     expect("W13", gw_journal_book(slot, 32, pan, 16, 7, 250, 0, &serial), 0);
     expect("W13's serial", serial, 1);
-    expect("W13's bytes", memcmp(slot, right, 32) == 0, 1);
+    expect("W13's bytes", memcmp(slot, w13, 32) == 0, 1);
     expect("a full journal", gw_journal_book(slot, 32, pan, 16, 7, 250, 0, &serial), 18);
     expect("release", gw_journal_release(slot, 32, 1, &count, &sum), 0);
     expect("released", count, 1);
@@ -129,6 +269,25 @@ static void journal(void)
     expect("next serial", serial, 2);
     memset(slot, 0xff, 4);
     expect("at the last serial", gw_journal_book(slot, 32, pan, 16, 7, 250, 0, &serial), 19);
+}
+
+/* W13's payment by the fleet card, either way round; a scratch too short before it. */
+static void swipe1(bool turned)
+{
+    static const uint8_t zeros[76];
+    struct stripe s = stripe_of(fleet_card, turned);
+    uint8_t slot[32] = {0}, acquirer[16] = {0}, scratch[76];
+    uint32_t serial = 0;
+    put_range(acquirer, &(struct range){40000000, 49999999, 7, 13, 19});
+    memset(scratch, 0x5a, 76);
+    expect("a scratch of 75", gw_swipe1(s.bytes, sizeof s.bytes, s.bits, acquirer, 0, acquirer, 16,
+                                        250, 0, scratch, 75, slot, 32, &serial), 1);
+    expect("it stays", scratch[0] == 0x5a && scratch[74] == 0x5a && serial == 0, 1);
+    expect("a scratch of 76", gw_swipe1(s.bytes, sizeof s.bytes, s.bits, acquirer, 0, acquirer, 16,
+                                        250, 0, scratch, 76, slot, 32, &serial), 0);
+    expect("it is zero", memcmp(scratch, zeros, 76) == 0, 1);
+    expect("the swipe's serial", serial, 1);
+    expect("the swipe's record", memcmp(slot, w13, 32) == 0, 1);
 }
 
 /* A step of the walk that checks once: the record's offset, and the serial to go on with. */
@@ -169,9 +328,14 @@ int main(void)
     known_texts();
     track();
     long_tracks();
+    track1_reads();
+    flips();
+    long_tracks1();
     masks();
     journal();
+    swipe1(false);
+    swipe1(true);
     walk();
-    printf("worked cases: %s\n", wrong ? "WRONG" : "as document 01 has them");
+    printf("worked cases, and cards of track 1: %s\n", wrong ? "WRONG" : "as written");
     return wrong ? 1 : 0;
 }
