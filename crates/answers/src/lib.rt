@@ -7,6 +7,7 @@ use journals::survey;
 use menu::Command;
 use menu::Looking;
 use menu::OnGroups;
+use menu::OnStripe;
 use menu::OnText;
 use menu::Row;
 use say::fields;
@@ -74,6 +75,15 @@ fn on_groups(out: &mut [u8], c: OnGroups, line: &[u8], k: usize) {
     }
 }
 
+// ---- the stripe
+
+fn on_stripe(out: &mut [u8], c: OnStripe, line: &[u8]) {
+    match c {
+        OnStripe::Track(t) => stripe::track(out, t, line),
+        OnStripe::Layout1 => stripe::layout1(out, line),
+    }
+}
+
 // ---- the journal
 
 // Whether the journal can't be used any more, which is answered.
@@ -104,7 +114,7 @@ pub fn answer(out: &mut [u8], row: Row, line: &[u8], journal: &[u8], lost: bool)
     match command {
         Command::Text(c) => on_text(out, c, line),
         Command::Groups(c) => on_groups(out, c, line, row.least),
-        Command::Track2 => stripe::track2(out, line),
+        Command::Stripe(c) => on_stripe(out, c, line),
         Command::Look(c) => look(out, c, line, journal, lost),
         Command::Help => menu::help(out),
         _ => {}

@@ -137,7 +137,7 @@ fn change_in(
 ) -> bool {
     match c {
         Changing::Book => payments::book(out, line, journal, at),
-        Changing::Swipe => payments::swipe(out, line, site, acquirer, journal, at),
+        Changing::Swipe(t) => payments::swipe(out, t, line, site, acquirer, journal, at),
         Changing::Release => payments::release(out, line, journal, at),
     }
 }

@@ -3,6 +3,7 @@
 use disk::Stored;
 use journal::Booked;
 use journal::Released;
+use layout::Track;
 use say::fields;
 use swipe::Swiped;
 
@@ -114,6 +115,7 @@ pub fn book(out: &mut [u8], line: &[u8], journal: &mut [u8], at: Place) -> bool 
 
 fn swipe_in(
     out: &mut [u8],
+    track: Track,
     stream: &[u8],
     bits: u64,
     site: &[u8],
@@ -123,8 +125,10 @@ fn swipe_in(
     journal: &mut [u8],
     at: Place,
 ) -> bool {
-    let mut scratch = [0u8; 37];
+    // enough for either track
+    let mut scratch = [0u8; 76];
     match swipe::swipe(
+        track,
         stream,
         bits,
         site,
@@ -144,6 +148,7 @@ fn swipe_in(
 
 fn swipe_stream(
     out: &mut [u8],
+    track: Track,
     line: &[u8],
     site: &[u8],
     acquirer: &[u8],
@@ -169,6 +174,7 @@ fn swipe_stream(
     let n = filled.length;
     swipe_in(
         out,
+        track,
         &stream[0..n],
         bits.value,
         site,
@@ -182,6 +188,7 @@ fn swipe_stream(
 
 pub fn swipe(
     out: &mut [u8],
+    track: Track,
     line: &[u8],
     site: &[u8],
     acquirer: &[u8],
@@ -189,7 +196,7 @@ pub fn swipe(
     at: Place,
 ) -> bool {
     let mut stream = [0u8; 70000];
-    swipe_stream(out, line, site, acquirer, &mut stream, journal, at)
+    swipe_stream(out, track, line, site, acquirer, &mut stream, journal, at)
 }
 
 // ---- release

@@ -62,6 +62,16 @@ pub fn hex(out: &mut [u8], s: &[u8]) {
     }
 }
 
+// A text that may hold spaces, in hexadecimal with its name before it; `-` for the empty one.
+pub fn named_hex(out: &mut [u8], name: &[u8], s: &[u8]) {
+    words(out, name);
+    if s.len() == 0 {
+        words(out, b"-");
+    } else {
+        hex(out, s);
+    }
+}
+
 fn phrase(out: &mut [u8], p: Phrase)
     requires { ⌜ p .len ≤ length (p .bytes) ⌝ }
 {
