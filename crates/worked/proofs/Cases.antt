@@ -1,4 +1,4 @@
--- "To be proved together, as a single statement over a list": W1 to W13 hold, by computation. Assumes nothing.
+-- "To be proved together, as a single statement over a list": W1 to W13 hold, by computation, and so does the fleet card. Assumes nothing.
 use Prim.Native.Nat.{ℕ, _≤_}
 use mathlib.Core.Path.{_≡_, refl, ap, _∙_}
 use mathlib.Core.Bool.{true}
@@ -19,6 +19,8 @@ use Rattle.iban.specs.Countries.{kindFits, table, listedIn, rowIn, kindsOf, fit
 use Rattle.iban.specs.Iban.{laidOut, ibanRule}
 use Rattle.bits.specs.Stream.{bitsFrom, stream, number as numberOfBits, ones}
 use Rattle.bits.specs.Reading.{next, allZero, finish, body, skip, begins, readOne, readEither, readRule}
+use Rattle.layout.specs.Layout.{isNamed, isExpiry, isService, leading, fieldRule, restRule, serviceRule, expiryRule}
+use Rattle.layout1.specs.Layout1.{fieldsRule, nameRule, layout1Rule}
 use Rattle.slots.specs.Record.{isHeld, heldState, record32}
 use Rattle.slots.specs.declared.Newest.{Newest}
 use Rattle.slots.specs.declared.Newest.the-variants.{Is}
@@ -26,7 +28,7 @@ use Rattle.slots.proofs.Laws.{zeros-formed}
 use Rattle.slots.proofs.Views.{view-one}
 use Rattle.journal.specs.Rules.{heldSlots, bookRule, bookBytes, Books, saidBooked}
 use Rattle.journal.specs.declared.Booked.{Booked}
-use Rattle.worked.specs.Cases.{All, all, _and_, Holds, cases, w11Case}
+use Rattle.worked.specs.Cases.{All, all, _and_, Holds, cases, w11Case, fleetTrack, fleetDivision, fleetCases}
 
 -- what masking allows into an output that is long enough, for a PAN whose masked text is known
 masked-into : (pan text : List ℕ) → panLength (length pan) ≡ true → allDigits pan ≡ true → masked pan ≡ text
@@ -58,3 +60,16 @@ all-hold =
     and masked-into (bytesOf "4111111111111111") _ refl refl refl
     and booked-empty (bytesOf "4111111111111111") 7 250 0 _ refl refl
     and all
+
+fleet-track : Holds fleetTrack
+unfolding readRule readEither readOne begins skip body finish allZero next ones numberOfBits stream bitsFrom
+fleet-track = record { lrc-number = refl; lrc-bits = refl; character-count = refl; bits-count = refl; forward = refl; backward = refl }
+
+fleet-division : Holds fleetDivision
+unfolding isDigit every decimalAfter isNamed isExpiry isService leading fieldRule restRule serviceRule expiryRule fieldsRule nameRule layout1Rule
+fleet-division =
+    record { accepted = refl; pan-part = refl; name-part = refl; expiry-part = refl; service-part = refl; rest-part = refl }
+
+-- a card of request E1: its track reads either way round, and its characters divide into their parts
+pub fleet-hold : All fleetCases
+fleet-hold = fleet-track and fleet-division and all

@@ -1,4 +1,5 @@
--- The worked cases of document 01, as a list, and what it means that a case holds: over the definitions that the promises use. Assumes nothing.
+-- The worked cases of document 01, and a fleet card for request E1, as lists, and what it means that a case holds: over the definitions that the
+-- promises use. Assumes nothing.
 use Prim.Native.Nat.{ℕ, zero, suc, _+_, _-_, _/_, _%_, _≤_}
 use Prim.Native.String.{String}
 use mathlib.Core.Path.{_≡_}
@@ -9,33 +10,36 @@ use lib.Dec.{eqb}
 use lib.ListN.{length, take, drop, replicate}
 use Rattle.text.specs.Bytes.{bytesOf}
 use Rattle.text.specs.Numbers.{put}
-use Rattle.reasons.specs.Reasons.{gives, refuses, said}
+use Rattle.reasons.specs.Reasons.{gives, refuses, said, numberIn}
 use Rattle.reasons.specs.declared.Tested.{Tested}
 use Rattle.luhn.specs.Luhn.{luhnRule}
 use Rattle.pan.specs.Pan.{Masks}
 use Rattle.creditor.specs.Creditor.{creditorRule}
 use Rattle.iban.specs.Iban.{ibanRule}
 use Rattle.bits.specs.Stream.{number, ones}
-use Rattle.bits.specs.Reading.{forwardOf, reversedOf}
+use Rattle.bits.specs.Reading.{Letters, Format, forwardOf, reversedOf, readRule}
 use Rattle.bits.specs.Shape.{bitsOf}
-use Rattle.track2.specs.Track2.{track2Rule}
+use Rattle.track2.specs.Track2.{track2}
+use Rattle.track1.specs.Track1.{track1}
+use Rattle.layout.specs.Layout.{Cut}
+use Rattle.layout1.specs.Layout1.{layout1Rule, panCut, nameCut, expiryCut, serviceCut, restCut}
 use Rattle.journal.specs.Rules.{Books, saidBooked}
 use Rattle.journal.specs.declared.Booked.{Booked}
 
 -- ---- a track as it is written
 
--- the five bits of a character: "four data bits, lowest first, then one making the count of ones odd"
-abbrev pub character : ℕ → List Bool
-character n = bitsOf 4 n ++ (eqb (ones (bitsOf 4 n) % 2) 0 ∷ [])
+-- the bits of a character: "four data bits, lowest first, then one making the count of ones odd"; six data bits on track 1
+abbrev pub character : Letters → ℕ → List Bool
+character l n = bitsOf (l .data-bits) n ++ (eqb (ones (bitsOf (l .data-bits) n) % 2) 0 ∷ [])
 
-abbrev pub characters : List ℕ → List Bool
-characters [] = []
-characters (b ∷ s) = character (b - 48) ++ characters s
+abbrev pub characters : Letters → List ℕ → List Bool
+characters l [] = []
+characters l (b ∷ s) = character l (b - l .base) ++ characters l s
 
 -- "the exclusive or of the data bits of all characters"
-abbrev pub lrcOf : List ℕ → ℕ
-lrcOf [] = 0
-lrcOf (b ∷ s) = bitXor (b - 48) (lrcOf s)
+abbrev pub lrcOf : Letters → List ℕ → ℕ
+lrcOf l [] = 0
+lrcOf l (b ∷ s) = bitXor (b - l .base) (lrcOf l s)
 
 -- so many bytes of a stream: "stream bit i is bit i mod 8 (0 the lowest) of byte i div 8"
 abbrev pub packed : ℕ → List Bool → List ℕ
@@ -51,21 +55,39 @@ pub data Case : Type 0 where
   -- a creditor reference, an IBAN passes
   creditor-passes : String → Case
   iban-passes : String → Case
-  -- the track's characters with both sentinels: the LRC's number and bits, the count of characters and of bits with the LRC
-  track : String → ℕ → List Bool → ℕ → ℕ → Case
+  -- a track's format and its characters with both sentinels: the LRC's number and bits, the count of characters and of bits with the LRC
+  track : Format → String → ℕ → List Bool → ℕ → ℕ → Case
+  -- track 1's characters between the sentinels divide into PAN, name, expiry, service code and discretionary data
+  divides : String → String → String → String → String → String → Case
   -- masking a PAN gives a text, at the front of any output that is long enough
   masks : String → String → Case
   -- booking a PAN with label, amount and clock in one empty slot leaves these bytes
   books : String → ℕ → ℕ → ℕ → List ℕ → Case
 
--- a track holds where it has this LRC and these counts and, written so, reads as what stands between its sentinels, either way round
-pub record TrackHolds (text between : List ℕ) (lrc : ℕ) (bits : List Bool) (count bit-count : ℕ) : Type 0 where
-  pub lrc-number : lrcOf text ≡ lrc
-  pub lrc-bits : character lrc ≡ bits
+-- a track holds where it has this LRC and these counts and, written so, reads as what stands between its sentinels, either way round, into
+-- as few bytes of output as the format takes
+pub record TrackHolds (f : Format) (text between : List ℕ) (lrc : ℕ) (bits : List Bool) (count bit-count : ℕ) : Type 0 where
+  pub lrc-number : lrcOf (f .letters) text ≡ lrc
+  pub lrc-bits : character (f .letters) lrc ≡ bits
   pub character-count : length text + 1 ≡ count
-  pub bits-count : length (characters text ++ bits) ≡ bit-count
-  pub forward : track2Rule (packed ((bit-count + 7) / 8) (characters text ++ bits)) bit-count 37 ≡ gives (forwardOf between)
-  pub backward : track2Rule (packed ((bit-count + 7) / 8) (reverse (characters text ++ bits))) bit-count 37 ≡ gives (reversedOf between)
+  pub bits-count : length (characters (f .letters) text ++ bits) ≡ bit-count
+  pub forward :
+      readRule f (packed ((bit-count + 7) / 8) (characters (f .letters) text ++ bits)) bit-count (f .limit - 2) ≡ gives (forwardOf between)
+  pub backward :
+      readRule f (packed ((bit-count + 7) / 8) (reverse (characters (f .letters) text ++ bits))) bit-count (f .limit - 2) ≡ gives (reversedOf between)
+
+-- the bytes of a cut
+abbrev pub cutFrom : List ℕ → Cut → List ℕ
+cutFrom s k = take (k .size) (drop (k .start) s)
+
+-- the layout accepts a text, whose parts are these
+pub record DivisionHolds (text pan name expiry service rest : List ℕ) : Type 0 where
+  pub accepted : numberIn (layout1Rule text) ≡ 0
+  pub pan-part : cutFrom text (panCut (layout1Rule text)) ≡ pan
+  pub name-part : cutFrom text (nameCut (layout1Rule text)) ≡ name
+  pub expiry-part : cutFrom text (expiryCut (layout1Rule text)) ≡ expiry
+  pub service-part : cutFrom text (serviceCut (layout1Rule text)) ≡ service
+  pub rest-part : cutFrom text (restCut (length text) (layout1Rule text)) ≡ rest
 
 -- what stands between the first and the last character
 abbrev pub inner : List ℕ → List ℕ
@@ -82,7 +104,9 @@ Holds (luhn-passes t) = luhnRule (bytesOf t) ≡ gives tt
 Holds (luhn-fails t) = luhnRule (bytesOf t) ≡ refuses 4
 Holds (creditor-passes t) = creditorRule (bytesOf t) ≡ gives tt
 Holds (iban-passes t) = ibanRule (bytesOf t) ≡ gives tt
-Holds (track t lrc bits count bit-count) = TrackHolds (bytesOf t) (inner (bytesOf t)) lrc bits count bit-count
+Holds (track f t lrc bits count bit-count) = TrackHolds f (bytesOf t) (inner (bytesOf t)) lrc bits count bit-count
+Holds (divides t pan name expiry service rest) =
+    DivisionHolds (bytesOf t) (bytesOf pan) (bytesOf name) (bytesOf expiry) (bytesOf service) (bytesOf rest)
 Holds (masks pan text) =
     (out : List ℕ) (r : Tested) (k : List ℕ) → length (bytesOf pan) ≤ length out → Masks (bytesOf pan) out r k
     → (said r ≡ gives tt) × (k ≡ put out 0 (bytesOf text))
@@ -97,7 +121,7 @@ pub data All : List Case → Type 0 where
 
 -- "`;4111111111111111=2512101?` has LRC 8, bits 00010, in all 27 characters, 135 bits"
 abbrev pub w11Case : Case
-w11Case = track ";4111111111111111=2512101?" 8 (false ∷ false ∷ false ∷ true ∷ false ∷ []) 27 135
+w11Case = track track2 ";4111111111111111=2512101?" 8 (false ∷ false ∷ false ∷ true ∷ false ∷ []) 27 135
 
 -- the paper's W1 to W13
 abbrev pub cases : List Case
@@ -122,3 +146,15 @@ cases =
     (1 ∷ 0 ∷ 0 ∷ 0 ∷ 0 ∷ 0 ∷ 0 ∷ 0 ∷ 0xFA ∷ 0 ∷ 0 ∷ 0 ∷ 7 ∷ 0 ∷ 0x10 ∷ 1
     ∷ 0x34 ∷ 0x31 ∷ 0x31 ∷ 0x31 ∷ 0x31 ∷ 0x31 ∷ 0x31 ∷ 0x31 ∷ 0x31 ∷ 0x31 ∷ 0 ∷ 0 ∷ 0 ∷ 0 ∷ 0 ∷ 0 ∷ [])
     ∷ []
+
+-- a card as ISO/IEC 7813 lays track 1 out: `%B4111111111111111^DOE/JANE^2512101?` has LRC 8, bits 0001000, in all 37 characters, 259 bits
+abbrev pub fleetTrack : Case
+fleetTrack =
+    track track1 "%B4111111111111111^DOE/JANE^2512101?" 8 (false ∷ false ∷ false ∷ true ∷ false ∷ false ∷ false ∷ []) 37 259
+
+abbrev pub fleetDivision : Case
+fleetDivision = divides "B4111111111111111^DOE/JANE^2512101" "4111111111111111" "DOE/JANE" "2512" "101" ""
+
+-- request E1's
+abbrev pub fleetCases : List Case
+fleetCases = fleetTrack ∷ fleetDivision ∷ []

@@ -1,11 +1,17 @@
 // Lengths at their bounds that no command can lend: outputs, scratch, streams, tables, journals.
 use bits::Read;
+use checks::stripe;
 use journal::Told;
+use layout::Track;
 use ranges::Found;
 use swipe::Swiped;
 
 // `;4111111111111111=2512101?` and its LRC, 135 bits.
 const W11: [u8; 17] = *b"\x8B\x84\x10\x42\x08\x21\x84\x10\x42\x08\xA1\x89\x1A\x44\x80\xE1\x23";
+
+// `%B4111111111111111^DOE/JANE^2512101?` and its LRC, 259 bits.
+const E1: [u8; 33] =
+    *b"\x45\x31\x35\x1A\x8D\x46\xA3\xD1\x68\x34\x1A\x8D\x46\xA3\xD1\xA8\x8F\xFC\x2A\x3D\x55\x61\x77\xC9\x27\xAD\x44\xA5\x51\x48\xF4\x83\x00";
 
 // A length, and what the lent bytes are afterwards.
 fn lent(out: &mut [u8; 4096], what: &[u8], bytes: &[u8]) {
@@ -28,8 +34,8 @@ fn mask(out: &mut [u8; 4096], n: usize) {
     }
 }
 
-fn read_into(out: &mut [u8; 4096], stream: &[u8], bits: u64, room: &mut [u8]) {
-    let answer = track2::read(stream, bits, room);
+fn read_into(out: &mut [u8; 4096], track: Track, stream: &[u8], bits: u64, room: &mut [u8]) {
+    let answer = stripe::read_on(track, stream, bits, room);
     lent(out, b" bits into ", room);
     match answer {
         Read::Forward(_) => say::words(out, b"read forward\n"),
@@ -38,29 +44,41 @@ fn read_into(out: &mut [u8; 4096], stream: &[u8], bits: u64, room: &mut [u8]) {
     }
 }
 
-fn read(out: &mut [u8; 4096], what: &[u8], stream: &[u8], bits: u64, n: usize) {
-    let mut room = [9u8; 38];
+fn read(out: &mut [u8; 4096], what: &[u8], track: Track, stream: &[u8], bits: u64, n: usize) {
+    let mut room = [9u8; 77];
     say::value(out, what, bits);
-    if n < 39 {
-        read_into(out, stream, bits, &mut room[0..n]);
+    if n < 78 {
+        read_into(out, track, stream, bits, &mut room[0..n]);
     }
 }
 
 fn reads(out: &mut [u8; 4096]) {
     let w11 = W11;
+    let e1 = E1;
     let zeros = [0u8; 513];
-    read(out, b"track2 of W11, ", &w11, 135, 36);
-    read(out, b"track2 of W11, ", &w11, 135, 38);
-    read(out, b"track2 of zeros, ", &zeros, 4096, 38);
-    read(out, b"track2 of zeros, ", &zeros, 4097, 38);
+    read(out, b"track2 of W11, ", Track::Two, &w11, 135, 36);
+    read(out, b"track2 of W11, ", Track::Two, &w11, 135, 38);
+    read(out, b"track2 of zeros, ", Track::Two, &zeros, 4096, 38);
+    read(out, b"track2 of zeros, ", Track::Two, &zeros, 4097, 38);
+    read(out, b"track1 of E1, ", Track::One, &e1, 259, 75);
+    read(out, b"track1 of E1, ", Track::One, &e1, 259, 77);
+    read(out, b"track1 of zeros, ", Track::One, &zeros, 4096, 76);
+    read(out, b"track1 of zeros, ", Track::One, &zeros, 4097, 76);
 }
 
-fn swipe_with(out: &mut [u8; 4096], scratch: &mut [u8]) {
-    let w11 = W11;
+fn swipe_with(
+    out: &mut [u8; 4096],
+    what: &[u8],
+    track: Track,
+    stream: &[u8],
+    bits: u64,
+    scratch: &mut [u8],
+) {
     let mut journal = [0u8; 32];
     let answer = swipe::swipe(
-        &w11,
-        135,
+        track,
+        stream,
+        bits,
         b"\x00\x00\x00\x00\xFF\xFF\xFF\xFF\x07\x00\x0D\x13\x00\x00\x00\x00",
         b"",
         250,
@@ -68,18 +86,29 @@ fn swipe_with(out: &mut [u8; 4096], scratch: &mut [u8]) {
         scratch,
         &mut journal,
     );
-    lent(out, b"swipe of W11 with scratch of ", scratch);
+    lent(out, what, scratch);
     match answer {
         Swiped::Serial(_) => say::words(out, b"booked\n"),
         Swiped::Refused(why) => say::refused(out, why),
     }
 }
 
-fn swipe(out: &mut [u8; 4096], n: usize) {
-    let mut scratch = [9u8; 38];
-    if n < 39 {
-        swipe_with(out, &mut scratch[0..n]);
+fn swipe(out: &mut [u8; 4096], what: &[u8], track: Track, stream: &[u8], bits: u64, n: usize) {
+    let mut scratch = [9u8; 77];
+    if n < 78 {
+        swipe_with(out, what, track, stream, bits, &mut scratch[0..n]);
     }
+}
+
+fn swipes(out: &mut [u8; 4096]) {
+    let w11 = W11;
+    let e1 = E1;
+    let two = b"swipe of W11 with scratch of ";
+    let one = b"swipe1 of E1 with scratch of ";
+    swipe(out, two, Track::Two, &w11, 135, 36);
+    swipe(out, two, Track::Two, &w11, 135, 38);
+    swipe(out, one, Track::One, &e1, 259, 75);
+    swipe(out, one, Track::One, &e1, 259, 77);
 }
 
 fn range(out: &mut [u8; 4096], site: &[u8], acquirer: &[u8]) {
@@ -127,6 +156,5 @@ pub fn run(out: &mut [u8; 4096]) {
     tables(out);
     reads(out);
     journals(out);
-    swipe(out, 36);
-    swipe(out, 38);
+    swipes(out);
 }

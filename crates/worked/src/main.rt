@@ -1,4 +1,4 @@
-// Shows document 01: its worked cases and the outside vectors, one line a case, as `stdin` lists them; parts, and lengths
+// Shows document 01 and request E1: their cases and the outside vectors, one line a case, as `stdin` lists them; parts, and lengths
 // that no command can lend; the battery swap.
 mod battery;
 mod lengths;

@@ -19,11 +19,23 @@ fn look_up(out: &mut [u8; 4096], pan: &[u8]) {
     part(out, number, ranges::look_up(&table, b"", pan));
 }
 
-fn divide(out: &mut [u8; 4096], chars: &[u8]) {
-    say::words(out, b"PAN of ");
+// A part of a track's characters, told with its name and theirs.
+fn part_of(out: &mut [u8; 4096], what: &[u8], chars: &[u8], number: u32, bytes: &[u8]) {
+    say::words(out, what);
     say::words(out, chars);
     say::words(out, b": ");
-    part(out, layout::divide_number(chars), layout::pan_of(chars));
+    part(out, number, bytes);
+}
+
+fn divide(out: &mut [u8; 4096], chars: &[u8]) {
+    let number = layout::divide_number(chars);
+    part_of(out, b"PAN of ", chars, number, layout::pan_of(chars));
+}
+
+fn divide1(out: &mut [u8; 4096], chars: &[u8]) {
+    let number = layout1::divide_number(chars);
+    part_of(out, b"PAN of ", chars, number, layout1::pan_of(chars));
+    part_of(out, b"name of ", chars, number, layout1::name_of(chars));
 }
 
 fn show(out: &mut [u8; 4096], journal: &[u8], serial: u32) {
@@ -79,5 +91,7 @@ pub fn run(out: &mut [u8; 4096]) {
     look_up(out, b"378282246310005");
     divide(out, b"4111111111111111=2512101");
     divide(out, b"4111111111111111");
+    divide1(out, b"B4111111111111111^DOE/JANE^2512101");
+    divide1(out, b"A4111111111111111^DOE/JANE^2512101");
     journals(out);
 }
