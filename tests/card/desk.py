@@ -1,7 +1,7 @@
 """Tests of the commands as people expect them: answers that arrive, lines as they are typed, help, dumps."""
-import os, subprocess
+import functools, operator, os, random, subprocess
 
-from drive import CARD, OTHER, SLOT, SLOTS, lines, program, records, run, same, traced
+from drive import CARD, EVERY, OTHER, SLOT, SLOTS, lines, program, records, run, same, traced
 
 
 def journal_at(path, slots=SLOTS):
@@ -96,8 +96,8 @@ def groups(folder):
 def every_example(folder):
     """Each line of `help` begins with a command, whose example is understood and is answered as the line says."""
     known = lines("help\n")
-    same(len(known) >= 23, True, "how many commands")
-    before = f"slots 4\nbook {CARD} 7 250 0\nsite 00000000FFFFFFFF07000D1300000000\n"
+    same(len(known) >= 26, True, "how many commands")
+    before = f"slots 4\nbook {CARD} 7 250 0\nsite {EVERY}\n"
     for line in known:
         usage, rest = line.split(" -> ", 1)
         answer, example = rest.rsplit(", e.g. ", 1)
@@ -111,9 +111,55 @@ def every_example(folder):
 
 def nearest(folder):
     """An unknown command is answered with the nearest one."""
-    for word, wanted in (("relase", "release"), ("bok", "book"), ("luhnmake", "luhn-make"), ("swype", "swipe"), ("survy", "survey"), ("Tell", "tell")):
+    for word, wanted in (
+        ("relase", "release"), ("bok", "book"), ("luhnmake", "luhn-make"), ("swype", "swipe"), ("survy", "survey"), ("Tell", "tell"),
+        ("swype1", "swipe1"), ("trac1", "track1"), ("Layout1", "layout1"),
+    ):
         same(lines(f"{word} 1\n"), [f"not understood: no such command (nearest: {wanted}; help lists all)"])
     same(lines("x" * 100000 + "\n")[0].startswith("not understood: no such command (nearest: "), True, "a long word")
+
+
+# ---- track 1
+
+
+def stream(text, reverse):
+    """A text with its sentinels as bits of track 1, its LRC behind it, forward or reversed: its bytes, and how many bits."""
+    numbers = [ord(c) - 32 for c in text]
+    numbers.append(functools.reduce(operator.xor, numbers))
+    data = [f"{n:06b}"[::-1] for n in numbers]
+    bits = "".join(d + str((d.count("1") + 1) % 2) for d in data)[:: -1 if reverse else 1]
+    return f"{int(bits[::-1], 2).to_bytes((len(bits) + 7) // 8, 'little').hex().upper()} {len(bits)}"
+
+
+def passes(pan):
+    """Whether a PAN passes Luhn: every second digit from the right is doubled, and the digits add up to a multiple of 10."""
+    return sum(sum(divmod(int(d) * (1 + i % 2), 10)) for i, d in enumerate(reversed(pan))) % 10 == 0
+
+
+def fleet_card(chance, turn):
+    """The parts of a card on track 1: PAN, name, expiry, service code and data, together no longer than the track takes."""
+    named = [chr(b) for b in range(32, 96) if chr(b) not in "%^?"]
+    pan, name = "".join(chance.choices("0123456789", k=13 + turn % 7)), "".join(chance.choices(named, k=2 + turn % 25))
+    expiry, service = chance.choice(["", f"{turn % 100:02}{1 + turn % 12:02}"]), chance.choice(["", f"{turn:03}"])
+    room = 76 - len(f"B{pan}^{name}^{expiry or '^'}{service or '^'}")
+    return pan, name, expiry, service, "".join(chance.choices(named, k=chance.choice([0, room, chance.randint(0, room)])))
+
+
+def any_fleet_card(folder):
+    """Cards on track 1, with PANs and names of every length, are read either way round, divided, and booked or refused for their check digit."""
+    chance, script, wanted, booked = random.Random(1), [f"site {EVERY}"], ["site 1 records"], 0
+    told = lambda text: text.encode().hex().upper() or "-"
+    for turn in range(400):
+        pan, name, expiry, service, rest = fleet_card(chance, turn)
+        text = f"B{pan}^{name}^{expiry or '^'}{service or '^'}{rest}"
+        script.append(f"layout1 {told(text)}")
+        wanted.append(f"pan {pan} expiry {expiry or '-'} service {service or '-'} name {told(name)} rest {told(rest)}")
+        for reverse, way in ((False, "forward"), (True, "reversed")):
+            bits = stream(f"%{text}?", reverse)
+            booked += passes(pan)
+            script += [f"track1 {bits}", f"swipe1 {bits} 1 0"]
+            wanted += [f"read {len(text)} {way} {told(text)}", f"booked {booked}" if passes(pan) else "refused 4: check digits wrong"]
+    same(lines("\n".join(script) + "\n"), wanted)
 
 
 # ---- journals
@@ -147,4 +193,5 @@ def wrong_lengths(folder):
         same(lines(f"journal {word}\nsurvey\ndump\n"), [wanted] * 3, f"{n} bytes")
 
 
-TESTS = [few_writes, each_in_time, full_output, closed_pipe, long_unheard, crlf, groups, every_example, nearest, pasted_back, decoded, wrong_lengths]
+TESTS = [few_writes, each_in_time, full_output, closed_pipe, long_unheard, crlf, groups, every_example, nearest, any_fleet_card,
+         pasted_back, decoded, wrong_lengths]

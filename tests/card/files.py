@@ -1,7 +1,7 @@
 """The program `card` on files: made, opened, locked, changed, cut and full."""
 import os, pathlib, pty, re, select, signal, subprocess, time
 
-from drive import CARD, OTHER, SLOT, SLOTS, Session, Skipped, begin, both, lines, made, program, records, root, same, traced
+from drive import CARD, EVERY, OTHER, SLOT, SLOTS, TRACK1, TRACK2, Session, Skipped, begin, both, lines, made, program, records, root, same, traced
 
 
 def kept(folder):
@@ -40,10 +40,26 @@ def round_the_ring(folder):
         begin(lines("held\n", path), [f"{s} {a} 411111******1111" for s, a in held] + [f"done {len(held)}"])
 
 
+def swiped(folder):
+    """Swipes of both tracks and bookings by turns, over several runs: the file holds what was answered, and a refused swipe changes nothing. A
+    card's record is the same from either track, but for its serial."""
+    path, site = made(folder / "journal", 4), f"site {EVERY}\n"
+    same(lines(site + f"swipe1 {TRACK1} 250 9\nswipe {TRACK2} 250 9\n", path)[1:], ["booked 1", "booked 2"])
+    data = path.read_bytes()
+    same(data[4:SLOT], data[SLOT + 4 : 2 * SLOT], "what the records hold")
+    none = "refused 8: no start sentinel"
+    same(lines(site + f"swipe1 {TRACK2} 1 0\nswipe {TRACK1} 1 0\nswipe1 {TRACK1} 0 0\n", path)[1:], [none, none, "refused 17: amount 0"])
+    same(path.read_bytes(), data, "the file after refusals")
+    script = site + f"book {CARD} 7 300 0\nswipe1 {TRACK1} 350 0\nswipe1 {TRACK1} 1 0\nrelease 1\nswipe1 {TRACK1} 400 0\n"
+    same(lines(script, path)[1:], ["booked 3", "booked 4", "refused 18: journal full", "released 1 250", "booked 5"])
+    same(records(path, 4), {2: (1, 250), 3: (1, 300), 4: (1, 350), 5: (1, 400)})
+    begin(lines("held\n", path), [f"{s} {a} 411111******1111" for s, a in ((2, 250), (3, 300), (4, 350), (5, 400))] + ["done 4"])
+
+
 def untouched(folder):
     """A file of a wrong length or form is never touched: the journal's commands answer 16, and a wrong length is said."""
     wrong = "refused 16: journal not well formed"
-    script = f"book {CARD} 7 1 0\nrelease 1\nshow 1\ntell\nheld\nswipe - 0 1 0\n"
+    script = f"book {CARD} 7 1 0\nrelease 1\nshow 1\ntell\nheld\nswipe - 0 1 0\nswipe1 - 0 1 0\n"
     good = bytearray(SLOT * SLOTS)
     cases = {"no bytes": b"", "one byte": b"\0", "31 bytes": bytes(31), "100 bytes": bytes(100), "a slot too many": bytes(SLOT * 2049), "long": b"x" * 200000}
     for name, at, value in (("a serial alone", 0, 1), ("the last byte", SLOT * SLOTS - 1, 1), ("a state", 15, 1)):
@@ -55,7 +71,7 @@ def untouched(folder):
         path.write_bytes(data)
         before = path.stat()
         out, err = both(script, path)
-        begin(out.decode().splitlines(), [wrong] * 6, name)
+        begin(out.decode().splitlines(), [wrong] * 7, name)
         length = "over 65536 bytes" if len(data) > SLOT * SLOTS else "1 byte" if len(data) == 1 else f"{len(data)} bytes"
         told = f"card: {path}: {length}; a journal has 32 for each of its 1 to 2048 slots\n"
         same(err.decode(), "" if len(data) == SLOT * SLOTS else told, f"what is said of {name}")
@@ -73,8 +89,8 @@ def last_serial(folder):
     record = (4294967295).to_bytes(4, "little") + bytes(4) + (1).to_bytes(4, "little") + bytes(2) + bytes([16, 1]) + b"4111111111" + bytes(6)
     path.write_bytes(record)
     used_up = "refused 19: serials used up"
-    begin(lines(f"book {CARD} 7 1 0\nswipe - 0 1 0\nheld\nrelease 4294967295\ntell\nbook {CARD} 7 1 0\n", path),
-          [used_up, used_up, "4294967295 1 411111******1111", "done 1", "released 1 1", "held 0 0 oldest 0 newest 4294967295", used_up])
+    begin(lines(f"book {CARD} 7 1 0\nswipe - 0 1 0\nswipe1 - 0 1 0\nheld\nrelease 4294967295\ntell\nbook {CARD} 7 1 0\n", path),
+          [used_up, used_up, used_up, "4294967295 1 411111******1111", "done 1", "released 1 1", "held 0 0 oldest 0 newest 4294967295", used_up])
 
 
 def no_file(folder):
@@ -275,8 +291,9 @@ def only_read(folder):
     def reads():
         before = path.read_bytes(), path.stat().st_mtime_ns, sorted(disk.iterdir())
         begin(lines(tells, "--read-only", path), told)
-        found = lines(f"book {CARD} 7 1 0\nrelease 2\n", "--read-only", path)
-        same(any(f.startswith(("booked", "released")) for f in found), False, f"changes answered: {found}")
+        alone = "not understood: the journal is opened for reading alone"
+        changes = f"site {EVERY}\nbook {CARD} 7 1 0\nswipe {TRACK2} 1 0\nswipe1 {TRACK1} 1 0\nrelease 2\n"
+        same(lines(changes, "--read-only", path)[1:], [alone] * 4, "changes answered")
         same((path.read_bytes(), path.stat().st_mtime_ns, sorted(disk.iterdir())), before, "the file")
 
     reads()
@@ -430,7 +447,7 @@ def in_order(folder):
     """What was read is synced before the first answer; changes are written in the order of serials, no more than a sector at a time, each
     synced before its answer."""
     path, log = made(folder / "journal"), folder / "log"
-    script = f"tell\n" + f"book {CARD} 7 1 0\n" * 40 + "release 40\n"
+    script = f"site {EVERY}\ntell\n" + (f"book {CARD} 7 1 0\n" * 2 + f"swipe {TRACK2} 1 0\nswipe1 {TRACK1} 1 0\n") * 10 + "release 40\n"
     subprocess.run(traced("-o", str(log), "-e", "trace=pwrite64,fsync,write") + [str(path)], input=script.encode(), stdout=subprocess.PIPE, check=True)
     change, says = ["pwrite64", "fsync"], 'write(1, "'
     same(calls(log), change + [says + "held"] + (change + [says + "booked"]) * 40 + change * 3 + [says + "released"])
@@ -458,5 +475,5 @@ def synced_at_start(folder):
         begin(done.stdout.decode().splitlines(), [f"held {turn + 1} {turn * 2 + 1} oldest 1 newest {turn + 1}"], "what the next start tells")
 
 
-TESTS = [kept, round_the_ring, untouched, last_serial, no_file, options, never_replaced, no_descriptors, one_at_a_time, lock_left, two_starts,
+TESTS = [kept, round_the_ring, swiped, untouched, last_serial, no_file, options, never_replaced, no_descriptors, one_at_a_time, lock_left, two_starts,
          two_makers, only_read, at_terminal, full_disk, killed, in_order, synced_at_start]
