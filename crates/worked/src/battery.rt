@@ -92,9 +92,10 @@ fn told(out: &mut [u8; 4096], t: Totals, journal: &[u8]) {
     }
 }
 
-fn played(out: &mut [u8; 4096], script: &[u8], journal: &mut [u8]) {
-    let mut scratch = [0u8; 37];
-    match history::replay(script, b"", b"", &mut scratch, journal) {
+// A script played on a journal, with this table of ranges and scratch for either track.
+pub fn played(out: &mut [u8; 4096], script: &[u8], site: &[u8], journal: &mut [u8]) {
+    let mut scratch = [0u8; 76];
+    match history::replay(script, site, b"", &mut scratch, journal) {
         Replayed::Played(t) => told(out, t, journal),
         Replayed::NotWhole => say::words(out, b"no whole number of records\n"),
         Replayed::TooLong => say::words(out, b"too many records\n"),
@@ -111,7 +112,7 @@ fn after(out: &mut [u8; 4096], words: &[u8], script: &[u8], n: usize) {
     }
     let mut journal = [0u8; 512];
     say::words(out, words);
-    played(out, &script[0..128 * n], &mut journal);
+    played(out, &script[0..128 * n], b"", &mut journal);
 }
 
 fn stages(out: &mut [u8; 4096], script: &[u8; 6400]) {

@@ -1,8 +1,9 @@
 // Shows document 01 and request E1: their cases and the outside vectors, one line a case, as `stdin` lists them; parts, and lengths
-// that no command can lend; the battery swap.
+// that no command can lend; the battery swap; both tracks in one script.
 mod battery;
 mod lengths;
 mod parts;
+mod tracks;
 
 fn end(out: &mut [u8; 4096]) {
     say::flush(out);
@@ -15,5 +16,6 @@ fn main() {
     parts::run(&mut out);
     lengths::run(&mut out);
     battery::run(&mut out);
+    tracks::run(&mut out);
     end(&mut out);
 }
