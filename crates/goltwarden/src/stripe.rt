@@ -39,7 +39,8 @@ pub extern "C" fn gw_track2_read(
     count: &mut u32,
     reversed: &mut u32,
 ) -> u32
-    ensures { λ r. ⌜ TrackReads track2 (now (stream .entry)) bits (now (out .entry)) (now (count .entry), now (reversed .entry)) r (now (count .exit), now (reversed .exit)) (now (out .exit)) ⌝ }
+    ensures { λ r. ⌜ TrackReads track2 (now (stream .entry)) bits (now (out .entry))
+        (now (count .entry), now (reversed .entry)) r (now (count .exit), now (reversed .exit)) (now (out .exit)) ⌝ }
 {
     hand_over(track2::read(stream, bits, out), count, reversed)
 }
@@ -52,7 +53,8 @@ pub extern "C" fn gw_track1_read(
     count: &mut u32,
     reversed: &mut u32,
 ) -> u32
-    ensures { λ r. ⌜ TrackReads track1 (now (stream .entry)) bits (now (out .entry)) (now (count .entry), now (reversed .entry)) r (now (count .exit), now (reversed .exit)) (now (out .exit)) ⌝ }
+    ensures { λ r. ⌜ TrackReads track1 (now (stream .entry)) bits (now (out .entry))
+        (now (count .entry), now (reversed .entry)) r (now (count .exit), now (reversed .exit)) (now (out .exit)) ⌝ }
 {
     hand_over(track1::read(stream, bits, out), count, reversed)
 }

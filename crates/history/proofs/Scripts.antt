@@ -37,7 +37,7 @@ use Rattle.journal.proofs.Calls.{sum-append}
 use Rattle.history.specs.declared.Totals.{Totals}
 use Rattle.history.specs.declared.Replayed.the-variants.{Played, NotWhole, TooLong}
 use Rattle.history.specs.History.{Call, book, swipe, release, aside, AnswerTo, Does, Done, Payment, takings, Effect, booked-one, released-to, nothing, ofSwipe, effect, effectOf, bookedIn, countIn, sumIn, booked, freedCount, freedSum, recordOf, Run, no-more, next}
-use Rattle.history.specs.Script.{kindAt, panAt, labelAt, amountAt, clockAt, serialAt, bitsAt, streamAt, swipeAt, callAt, scratchLeft, Plays, no-record, one-record, refusedIn, skippedIn, refusedCount, skippedCount, TotalsOf, PlaysAll, PlaysOne, Adds, replayRule, Replays, played, not-whole, too-long, Conserved}
+use Rattle.history.specs.Script.{kindAt, panAt, labelAt, amountAt, clockAt, serialAt, streamAt, swipeAt, callAt, scratchLeft, Plays, no-record, one-record, refusedIn, skippedIn, refusedCount, skippedCount, TotalsOf, PlaysAll, PlaysOne, Adds, replayRule, Replays, played, not-whole, too-long, Conserved}
 use Rattle.history.proofs.Account.{Open, account}
 use Rattle.history.proofs.Demand.{sum-records}
 
@@ -228,8 +228,12 @@ module _ (s site acquirer t : List ℕ) (at : ℕ) where
   unfolding callAt
   is-swipe Two e = simp (ne-eqb (kindAt s at) 1 (λ z. omega arith), ne-eqb (kindAt s at) 2 (λ z. omega arith), eq-eqb (kindAt s at) 3 e)
   is-swipe One e =
-      simp
-      (ne-eqb (kindAt s at) 1 (λ z. omega arith), ne-eqb (kindAt s at) 2 (λ z. omega arith), ne-eqb (kindAt s at) 3 (λ z. omega arith), eq-eqb (kindAt s at) 4 e)
+      simp (
+        ne-eqb (kindAt s at) 1 (λ z. omega arith),
+        ne-eqb (kindAt s at) 2 (λ z. omega arith),
+        ne-eqb (kindAt s at) 3 (λ z. omega arith),
+        eq-eqb (kindAt s at) 4 e,
+      )
 
   pub is-none : (kindAt s at ≡ 1 → ⊥) → (kindAt s at ≡ 2 → ⊥) → (kindAt s at ≡ 3 → ⊥) → (kindAt s at ≡ 4 → ⊥) → aside ≡ callAt s site acquirer t at
   unfolding callAt

@@ -116,7 +116,8 @@ fn play_swipe(
     journal: &mut [u8],
 ) -> Totals
     requires { ⌜ at + 128 ≤ length (now script) ⌝ }
-    ensures { λ r. ⌜ PlaysOne (swipeAt track (now (script .entry)) (now (site .entry)) (now (acquirer .entry)) (now (scratch .entry)) at) (clockAt (now (script .entry)) at) (now (scratch .entry)) (now (journal .entry)) r (now (scratch .exit)) (now (journal .exit)) ⌝ }
+    ensures { λ r. ⌜ PlaysOne (swipeAt track (now (script .entry)) (now (site .entry)) (now (acquirer .entry)) (now (scratch .entry)) at)
+        (clockAt (now (script .entry)) at) (now (scratch .entry)) (now (journal .entry)) r (now (scratch .exit)) (now (journal .exit)) ⌝ }
 {
     let amount = text::u32_at(script, at + 4);
     let clock = text::u32_at(script, at + 8);

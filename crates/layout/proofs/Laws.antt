@@ -26,18 +26,10 @@ use Rattle.layout.specs.declared.Division.{Division}
 use Rattle.layout.specs.declared.Division.the-variants.{Fields, Refused}
 use Rattle.layout.proofs.Forms.{present-byte, front-byte, lead-is, lead-pass, Digits, expiry-is, service-is, field-found, past-written, Written, field-written}
 
--- pieces, and places, with the same parts are the same
+-- pieces with the same parts are the same
 same-pieces : {a a′ r r′ : List ℕ} {e e′ v v′ : Optional} → a ≡ a′ → e ≡ e′ → v ≡ v′ → r ≡ r′
     → _≡_ {A = Pieces} (record { pan = a; expiry = e; service = v; discretionary = r }) (record { pan = a′; expiry = e′; service = v′; discretionary = r′ })
-same-pieces {a} {a′} {r} {r′} {e} {e′} {v} {v′} h i j k =
-    ap₂ (λ (x : List ℕ) (y : Optional). record { pan = x; expiry = y; service = v; discretionary = r }) h i
-    ∙ ap₂ (λ (x : Optional) (y : List ℕ). record { pan = a′; expiry = e′; service = x; discretionary = y }) j k
-
-same-places : {a a′ r r′ : ℕ} {e e′ v v′ : Field} → a ≡ a′ → e ≡ e′ → v ≡ v′ → r ≡ r′
-    → _≡_ {A = Places} (record { pan = a; expiry = e; service = v; rest = r }) (record { pan = a′; expiry = e′; service = v′; rest = r′ })
-same-places {a} {a′} {r} {r′} {e} {e′} {v} {v′} h i j k =
-    ap₂ (λ (x : ℕ) (y : Field). record { pan = x; expiry = y; service = v; rest = r }) h i
-    ∙ ap₂ (λ (x : Field) (y : ℕ). record { pan = a′; expiry = e′; service = x; rest = y }) j k
+same-pieces h i j k = λ x. record { pan = h x; expiry = i x; service = j x; discretionary = k x }
 
 -- ---- the fields from the expiry's place q on, of either track
 
@@ -109,40 +101,6 @@ pub record Divides (s : List ℕ) (d : Places) : Type 0 where
   pub text : textOf (piecesAt s d) ≡ s
   pub places : placesOf (piecesAt s d) ≡ d
 
--- and what is accepted has the form
-module _ (s : List ℕ) (p : ℕ) (e v : Field) (long : panLength p ≡ true) (digits : allDigits (take p s) ≡ true) (equals : getD s p 0 ≡ 61)
-    (we : Written Two 4 isExpiry expiry-is s (p + 1) e) (wv : Written Two 3 isService service-is s (past 4 (p + 1) e) v)
-    (rest : allDigits (drop (past 3 (past 4 (p + 1) e) v) s) ≡ true) where
-  abbrev found : Places
-  found = record { pan = p; expiry = e; service = v; rest = past 3 (past 4 (p + 1) e) v }
-
-  within : p < length s
-  within = present-byte s p (omega arith)
-
-  pan-size : length (take p s) ≡ p
-  pan-size = length-take-le p s (omega (arith, within))
-
-  expiry-end : past 4 (p + 1) e ≡ p + 1 + length (written Two (fieldIn 4 s e))
-  expiry-end = ap (past 4 (p + 1)) (sym (we .place)) ∙ past-written Two 4 isExpiry expiry-is s (p + 1) (fieldIn 4 s e) (we .right)
-
-  service-end : past 3 (past 4 (p + 1) e) v ≡ past 4 (p + 1) e + length (written Two (fieldIn 3 s v))
-  service-end = ap (past 3 (past 4 (p + 1) e)) (sym (wv .place)) ∙ past-written Two 3 isService service-is s (past 4 (p + 1) e) (fieldIn 3 s v) (wv .right)
-
-  divides : Divides s found
-  divides = record {
-    formed = record { pan-length = rw pan-size long; pan-digits = digits; expiry-right = we .right; service-right = wv .right; rest-digits = rest };
-    text =
-        ap (λ (l : List ℕ). take p s ++ l)
-        (ap (λ (l : List ℕ). 61 ∷ (written Two (fieldIn 4 s e) ++ l)) (sym (wv .text)) ∙ ap (λ (l : List ℕ). 61 ∷ l) (sym (we .text))
-        ∙ sym (drop-cons s p 0 within ∙ ap₂ (λ (b : ℕ) (l : List ℕ). b ∷ l) equals (ap (λ (m : ℕ). drop m s) (sym (add-one p)))))
-        ∙ take-append-drop p s;
-    places =
-        same-places pan-size
-        (ap (λ (m : ℕ). placed (m + 1) (fieldIn 4 s e)) pan-size ∙ we .place)
-        (ap (λ (m : ℕ). placed m (fieldIn 3 s v)) (ap (λ (m : ℕ). m + 1 + length (written Two (fieldIn 4 s e))) pan-size ∙ sym expiry-end) ∙ wv .place)
-        (ap (λ (m : ℕ). m + length (written Two (fieldIn 3 s v))) (ap (λ (m : ℕ). m + 1 + length (written Two (fieldIn 4 s e))) pan-size ∙ sym expiry-end) ∙ sym service-end);
-  }
-
 -- what is accepted from the expiry's place on: the fields are written there, one behind the other
 pub record Tail (k : Track) (s : List ℕ) (p q : ℕ) (d : Places) : Type 0 where
   pub pan : d .pan ≡ p
@@ -167,18 +125,81 @@ tail-there k s p q d accepted =
       free = r .0;
     })
 
+-- so that they make up the rest of the text, each where the one before it ends
+module _ (k : Track) (s : List ℕ) (p q : ℕ) (d : Places) (t : Tail k s p q d) where
+  abbrev expiry : Optional
+  expiry = fieldIn 4 s (d .expiry)
+
+  abbrev service : Optional
+  service = fieldIn 3 s (d .service)
+
+  pub tail-text : written k expiry ++ (written k service ++ drop (d .rest) s) ≡ drop q s
+  tail-text =
+      ap (λ (l : List ℕ). written k expiry ++ l) (ap (λ (m : ℕ). written k service ++ drop m s) (t .rest) ∙ sym (t .service .text))
+      ∙ sym (t .expiry .text)
+
+  expiry-end : q + length (written k expiry) ≡ past 4 q (d .expiry)
+  expiry-end = sym (ap (past 4 q) (sym (t .expiry .place)) ∙ past-written k 4 isExpiry expiry-is s q expiry (t .expiry .right))
+
+  service-end : past 4 q (d .expiry) + length (written k service) ≡ d .rest
+  service-end =
+      let e = past 4 q (d .expiry) in
+      sym (ap (past 3 e) (sym (t .service .place)) ∙ past-written k 3 isService service-is s e service (t .service .right)) ∙ sym (t .rest)
+
+  pub tail-places : (m : ℕ) → m ≡ q
+      → (placed m expiry ≡ d .expiry) × (placed (m + length (written k expiry)) service ≡ d .service)
+      × (m + length (written k expiry) + length (written k service) ≡ d .rest)
+  tail-places m e =
+      let v = ap (λ (n : ℕ). n + length (written k expiry)) e ∙ expiry-end in (
+        ap (λ (n : ℕ). placed n expiry) e ∙ t .expiry .place,
+        ap (λ (n : ℕ). placed n service) v ∙ t .service .place,
+        ap (λ (n : ℕ). n + length (written k service)) v ∙ service-end,
+      )
+
+-- ---- what is accepted has the form
+
+module _ (s : List ℕ) (p : ℕ) (d : Places) (long : panLength p ≡ true) (digits : allDigits (take p s) ≡ true) (equals : getD s p 0 ≡ 61)
+    (t : Tail Two s p (p + 1) d) where
+  abbrev found : Places
+  found = record { pan = p; expiry = d .expiry; service = d .service; rest = d .rest }
+
+  within : p < length s
+  within = present-byte s p (omega arith)
+
+  pan-size : length (take p s) ≡ p
+  pan-size = length-take-le p s (omega (arith, within))
+
+  whole : textOf (piecesAt s found) ≡ s
+  whole =
+      ap (λ (l : List ℕ). take p s ++ l)
+      (ap (λ (l : List ℕ). 61 ∷ l) (tail-text Two s p (p + 1) d t)
+      ∙ sym (drop-cons s p 0 within ∙ ap₂ (λ (b : ℕ) (l : List ℕ). b ∷ l) equals (ap (λ (m : ℕ). drop m s) (sym (add-one p)))))
+      ∙ take-append-drop p s
+
+  divides : Divides s found
+  divides =
+      let w = tail-places Two s p (p + 1) d t (length (take p s) + 1) (ap (λ (m : ℕ). m + 1) pan-size) in
+      record {
+        formed = record {
+          pan-length = rw pan-size long;
+          pan-digits = digits;
+          expiry-right = t .expiry .right;
+          service-right = t .service .right;
+          rest-digits = t .free;
+        };
+        text = whole;
+        places = λ i. record { pan = pan-size i; expiry = w .0 i; service = w .1 i; rest = w .2 i };
+      }
+
 pub accepted-form : (s : List ℕ) (d : Places) → layoutRule s ≡ gives d → Divides s d
 unfolding layoutRule
 accepted-form s d accepted =
     let start = passed (panLength (lead s) && markAt Two s (lead s)) 6 _ d accepted in
     let pan = both-true (panLength (lead s)) (markAt Two s (lead s)) (start .0) in
     let t = tail-there Two s (lead s) (lead s + 1) d (start .1) in
-    let z : record { pan = lead s; expiry = d .expiry; service = d .service; rest = past 3 (past 4 (lead s + 1) (d .expiry)) (d .service) } ≡ d =
-    same-places (sym (t .pan)) refl refl (sym (t .rest)) in
-    let free : allDigits (drop (past 3 (past 4 (lead s + 1) (d .expiry)) (d .service)) s) ≡ true =
-    subst (λ (m : ℕ). allDigits (drop m s) ≡ true) (t .rest) (t .free) in
-    subst (Divides s) z
-    (divides s (lead s) (d .expiry) (d .service) (pan .0) (lead-pass isDigit s) (eqb-true (getD s (lead s) 0) 61 (pan .1)) (t .expiry) (t .service) free)
+    let among : ℕ → Places = λ p. record { pan = p; expiry = d .expiry; service = d .service; rest = d .rest } in
+    subst (Divides s) (sym (ap among (t .pan)))
+    (divides s (lead s) d (pan .0) (lead-pass isDigit s) (eqb-true (getD s (lead s) 0) 61 (pan .1)) t)
 
 -- so that the parts stand within it
 pub field-fits : (s : List ℕ) (n : ℕ) (test : List ℕ → Bool) → Digits n test → (f : Field) → Passes test (fieldIn n s f)

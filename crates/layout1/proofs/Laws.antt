@@ -16,12 +16,12 @@ use Rattle.text.proofs.Parts.{Same, part-one}
 use Rattle.reasons.specs.Reasons.{numberOf, numberIn, gives, refuses}
 use Rattle.reasons.proofs.Laws.{gives-refuses, refuses-one, passed, went-on}
 use Rattle.pan.specs.Pan.{panLength}
-use Rattle.layout.specs.Layout.{isNamed, isExpiry, isService, lead, markAt, past, expiryRule, CutOf, fieldCut}
+use Rattle.layout.specs.Layout.{isNamed, isExpiry, isService, lead, markAt, expiryRule, CutOf, fieldCut}
 use Rattle.layout.specs.Layout as fields
-use Rattle.layout.specs.Grammar.{Optional, written, placed, fieldIn}
+use Rattle.layout.specs.Grammar.{written}
 use Rattle.layout.specs.declared.Track.the-variants.{One}
-use Rattle.layout.proofs.Forms.{present-byte, lead-pass, expiry-is, service-is, past-written}
-use Rattle.layout.proofs.Laws.{Tail, tail-there, field-fits, written-size, placed-start, stops-six, then-six, expiry-six, refused-exactly}
+use Rattle.layout.proofs.Forms.{present-byte, lead-pass, expiry-is, service-is}
+use Rattle.layout.proofs.Laws.{Tail, tail-there, tail-text, tail-places, field-fits, written-size, placed-start, stops-six, then-six, expiry-six, refused-exactly}
 use Rattle.layout1.specs.Layout1.{Places, nameLength, fieldsRule, nameRule, layout1Rule, said, panCut, nameCut, expiryCut, serviceCut, restCut}
 use Rattle.layout1.specs.Grammar1.{Pieces, textOf, Formed, expiryAt, placesOf, piecesAt}
 use Rattle.layout1.specs.declared.Division.{Division}
@@ -56,12 +56,6 @@ module _ (s : List ℕ) (p n : ℕ) (x : fields.Places) (code : getD s 0 0 ≡ 6
   abbrev found : Places
   found = record { pan = p; name = n; expiry = x .expiry; service = x .service; rest = x .rest }
 
-  abbrev expiry : Optional
-  expiry = fieldIn 4 s (x .expiry)
-
-  abbrev service : Optional
-  service = fieldIn 3 s (x .service)
-
   mark-in : p + 1 < length s
   mark-in = present-byte s (p + 1) (omega arith)
 
@@ -74,11 +68,7 @@ module _ (s : List ℕ) (p n : ℕ) (x : fields.Places) (code : getD s 0 0 ≡ 6
   name-size : length (take n (drop (p + 2) s)) ≡ n
   name-size = length-take-le n (drop (p + 2) s) (rw length-drop (omega (arith, end-in)))
 
-  -- from the last field back to the first
-  tail-is : written One expiry ++ (written One service ++ drop (x .rest) s) ≡ drop (p + n + 3) s
-  tail-is =
-      ap (λ (l : List ℕ). written One expiry ++ l) (ap (λ (m : ℕ). written One service ++ drop m s) (t .rest) ∙ sym (t .service .text)) ∙ sym (t .expiry .text)
-
+  -- a `^`, and a piece, in front of the rest of the text
   marked : (q m : ℕ) (l : List ℕ) → q < length s → getD s q 0 ≡ 94 → m ≡ suc q → l ≡ drop m s → 94 ∷ l ≡ drop q s
   marked q m l h e f k = ap₂ (λ (b : ℕ) (r : List ℕ). b ∷ r) (sym e) (k ∙ ap (λ (i : ℕ). drop i s) f) ∙ sym (drop-cons s q 0 h)
 
@@ -88,45 +78,28 @@ module _ (s : List ℕ) (p n : ℕ) (x : fields.Places) (code : getD s 0 0 ≡ 6
 
   whole : textOf (piecesAt s found) ≡ s
   whole =
-      let e = marked (p + n + 2) (p + n + 3) _ end-in end (omega arith) tail-is in
+      let e = marked (p + n + 2) (p + n + 3) _ end-in end (omega arith) (tail-text One s p (p + n + 3) x t) in
       let m = marked (p + 1) (p + 2) _ mark-in mark (omega arith) (joined (p + 2) (p + n + 2) n _ (omega arith) e) in
       let b : 0 < length s = omega (arith, mark-in) in
       ap₂ (λ (c : ℕ) (l : List ℕ). c ∷ l) (sym code) (joined 1 (p + 1) p _ (omega arith) m) ∙ sym (drop-cons s 0 0 b)
 
-  expiry-at : length (take p (drop 1 s)) + length (take n (drop (p + 2) s)) + 3 ≡ p + n + 3
-  expiry-at = ap₂ (λ (a b : ℕ). a + b + 3) pan-size name-size
-
-  service-at : length (take p (drop 1 s)) + length (take n (drop (p + 2) s)) + 3 + length (written One expiry) ≡ past 4 (p + n + 3) (x .expiry)
-  service-at =
-      ap (λ (m : ℕ). m + length (written One expiry)) expiry-at
-      ∙ sym (ap (past 4 (p + n + 3)) (sym (t .expiry .place)) ∙ past-written One 4 isExpiry expiry-is s (p + n + 3) expiry (t .expiry .right))
-
-  rest-at : length (take p (drop 1 s)) + length (take n (drop (p + 2) s)) + 3 + length (written One expiry) + length (written One service) ≡ x .rest
-  rest-at =
-      let q = past 4 (p + n + 3) (x .expiry) in
-      ap (λ (m : ℕ). m + length (written One service)) service-at
-      ∙ sym (ap (past 3 q) (sym (t .service .place)) ∙ past-written One 3 isService service-is s q service (t .service .right)) ∙ sym (t .rest)
-
   divides : Divides s found
-  divides = record {
-    formed = record {
-      pan-length = ap panLength pan-size ∙ long;
-      pan-digits = digits;
-      name-length = ap (within 2 26) name-size ∙ some;
-      name-right = named;
-      expiry-right = t .expiry .right;
-      service-right = t .service .right;
-      rest-right = t .free;
-    };
-    text = whole;
-    places = λ i. record {
-      pan = pan-size i;
-      name = name-size i;
-      expiry = (ap (λ (m : ℕ). placed m expiry) expiry-at ∙ t .expiry .place) i;
-      service = (ap (λ (m : ℕ). placed m service) service-at ∙ t .service .place) i;
-      rest = rest-at i;
-    };
-  }
+  divides =
+      let m = length (take p (drop 1 s)) + length (take n (drop (p + 2) s)) + 3 in
+      let w = tail-places One s p (p + n + 3) x t m (ap₂ (λ (a b : ℕ). a + b + 3) pan-size name-size) in
+      record {
+        formed = record {
+          pan-length = ap panLength pan-size ∙ long;
+          pan-digits = digits;
+          name-length = ap (within 2 26) name-size ∙ some;
+          name-right = named;
+          expiry-right = t .expiry .right;
+          service-right = t .service .right;
+          rest-right = t .free;
+        };
+        text = whole;
+        places = λ i. record { pan = pan-size i; name = name-size i; expiry = w .0 i; service = w .1 i; rest = w .2 i };
+      }
 
 pub accepted-form : (s : List ℕ) (d : Places) → layout1Rule s ≡ gives d → Divides s d
 unfolding layout1Rule nameRule fieldsRule

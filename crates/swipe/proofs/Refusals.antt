@@ -55,7 +55,9 @@ CardRefuses g n =
 
 pub card-refuses : (g : Given) (n : ℕ) → (cardRule g ≡ refuses n) ↔ CardRefuses g n
 unfolding cardRule
-card-refuses g n = either-exactly (readRule (format (g .track)) (g .stream) (g .bits) (room (g .track))) _ n (λ t. chars-refuse (g .site) (g .acquirer) n (g .track) (t .chars))
+card-refuses g n =
+    either-exactly (readRule (format (g .track)) (g .stream) (g .bits) (room (g .track))) _ n
+    (λ t. chars-refuse (g .site) (g .acquirer) n (g .track) (t .chars))
 
 module _ (m : Newest) (g : Given) (amount space : ℕ) (j : List ℕ) (n : ℕ) where
   pub swipe-refuses : (swipeRule m g amount space j ≡ refuses n) ↔

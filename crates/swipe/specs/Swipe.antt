@@ -1,4 +1,4 @@
--- One swipe, from the stripe to the journal (document 01, 'The swipe'). Assumes nothing.
+-- One swipe, from the stripe to the journal (document 01, 'The swipe'; request E1, for cards on track 1). Assumes nothing.
 use Prim.Native.Nat.{ℕ, _+_, _-_, _≤_}
 use mathlib.Core.Path.{_≡_}
 use mathlib.Core.Bool.{true, not, cond}
