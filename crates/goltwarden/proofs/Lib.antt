@@ -1,5 +1,2 @@
-pub mod Handed
-pub mod Readings
-pub mod Walked
 pub mod Laws
 pub mod Programs

@@ -21,11 +21,11 @@ use Rattle.walker.proofs.Whole.{above-by, above-one, above-all, onward-by, onwa
 use Rattle.history.specs.History.{AnswerTo, Does, Done, Run, no-more, next, Demand3, SameAnswer}
 use Rattle.history.proofs.Laws.{demand-3}
 use Rattle.history.proofs.Twins.{clocks-same, twin}
-use Rattle.goltwarden.specs.Hands.{Hands}
-use Rattle.goltwarden.specs.Calls.{WalkStarts}
+use Rattle.hands.specs.Hands.{Hands}
+use Rattle.c_box.specs.Calls.{WalkStarts}
 use Rattle.goltwarden.specs.Programs.{Asks, books, releases, shows, tells, walks, starts, steps, surveys, swipes, Lent, Promised, callOf, Hears, Made, Program, no-call, one-call, Heard, none-heard, one-heard, SameAsks, no-asks, same-asks, SameLeft, nothing-left, same-left, WalksTo, StepsTo}
-use Rattle.goltwarden.proofs.Handed.{outcome-is, gave}
-use Rattle.goltwarden.proofs.Laws.{hands-one}
+use Rattle.hands.proofs.Handed.{outcome-is, gave}
+use Rattle.hands.proofs.Laws.{hands-one}
 
 -- ---- one call
 

@@ -1,4 +1,2 @@
-pub mod Values
-pub mod Hands
-pub mod Calls
+pub mod Version
 pub mod Programs

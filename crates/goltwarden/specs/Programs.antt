@@ -8,8 +8,8 @@ use Rattle.journal.specs.Rules.{saidBooked, saidReleased, saidShown, saidTold}
 use Rattle.journal.specs.Survey.{saidSurveyed}
 use Rattle.swipe.specs.Swipe.{Given, saidSwiped}
 use Rattle.history.specs.History.{Call, book, swipe, release, reads, find, tell, survey, walkAbove, walkFirst, walkStep, AnswerTo, Done}
-use Rattle.goltwarden.specs.Hands.{Hands}
-use Rattle.goltwarden.specs.Calls.{JournalBooks, JournalReleases, JournalShows, JournalTells, JournalWalks, WalkStarts, WalkSteps, JournalSurveys, Swipes}
+use Rattle.hands.specs.Hands.{Hands}
+use Rattle.c_box.specs.Calls.{JournalBooks, JournalReleases, JournalShows, JournalTells, JournalWalks, WalkStarts, WalkSteps, JournalSurveys, Swipes}
 
 -- ---- one call
 

@@ -1,12 +1,11 @@
 // Card numbers: gw_pan_mask, gw_range_find.
-use ranges::Found;
-ghost use Rattle.goltwarden.specs.Calls.{PanMasks, RangeFinds};
+ghost use Rattle.c_numbers.specs.Calls.{PanMasks, RangeFinds};
 
 #[no_mangle]
 pub extern "C" fn gw_pan_mask(pan: &[u8], out: &mut [u8]) -> u32
     ensures { λ r. ⌜ PanMasks (now (pan .entry)) (now (out .entry)) r (now (out .exit)) ⌝ }
 {
-    reasons::tested_number(pan::mask(pan, out))
+    c_numbers::pan_mask(pan, out)
 }
 
 #[no_mangle]
@@ -17,19 +16,8 @@ pub extern "C" fn gw_range_find(
     table: &mut u32,
     at: &mut u32,
 ) -> u32
-    ensures { λ r. ⌜ RangeFinds (now (site .entry)) (now (acquirer .entry)) (now (pan .entry)) (now (table .entry), now (at .entry)) r (now (table .exit), now (at .exit)) ⌝ }
+    ensures { λ r. ⌜ RangeFinds (now (site .entry)) (now (acquirer .entry)) (now (pan .entry))
+        (now (table .entry), now (at .entry)) r (now (table .exit), now (at .exit)) ⌝ }
 {
-    match ranges::find(site, acquirer, pan) {
-        Found::Site(a) => {
-            *table = 0;
-            *at = a as u32;
-            0
-        }
-        Found::Acquirer(a) => {
-            *table = 1;
-            *at = a as u32;
-            0
-        }
-        Found::Refused(why) => reasons::number(why),
-    }
+    c_numbers::range_find(site, acquirer, pan, table, at)
 }

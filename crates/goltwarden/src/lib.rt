@@ -1,5 +1,5 @@
-// The C interface (include/goltwarden.h): each function calls the library's call and hands numbers over.
-// Every one answers 0 or the number of the refusal, and on a refusal nothing behind a pointer changes.
+// The C interface (include/goltwarden.h): each function is exported here, as one call of the crate that has its code and its promise: `c_numbers`,
+// `c_stripe` or `c_box`.
 mod accounts;
 mod cards;
 mod digits;
@@ -8,4 +8,12 @@ mod stripe;
 mod swipes;
 mod walks;
 
-pub use digits::gw_version;
+ghost use Rattle.goltwarden.specs.Version.{VersionIs};
+
+// The version of this interface.
+#[no_mangle]
+pub extern "C" fn gw_version() -> u32
+    ensures { λ r. ⌜ VersionIs r ⌝ }
+{
+    3
+}

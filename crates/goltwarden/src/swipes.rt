@@ -1,44 +1,8 @@
 // The swipes: gw_swipe, gw_swipe1.
 use layout::Track;
-use swipe::Swiped;
 ghost use Rattle.layout.specs.declared.Track.the-variants.{Two, One};
 ghost use Rattle.swipe.specs.Swipe.{given};
-ghost use Rattle.goltwarden.specs.Calls.{Swipes};
-
-// A swipe of this track, its serial handed over.
-fn swipe_on(
-    track: Track,
-    stream: &[u8],
-    bits: u64,
-    site: &[u8],
-    acquirer: &[u8],
-    amount: u32,
-    clock: u32,
-    scratch: &mut [u8],
-    journal: &mut [u8],
-    serial: &mut u32,
-) -> u32
-    ensures { λ r. ⌜ Swipes (given track (now (stream .entry)) bits (now (site .entry)) (now (acquirer .entry))) amount clock
-        (now (scratch .entry)) (now (journal .entry)) (now (serial .entry)) r (now (serial .exit)) (now (scratch .exit)) (now (journal .exit)) ⌝ }
-{
-    match swipe::swipe(
-        track,
-        stream,
-        bits,
-        site,
-        acquirer,
-        amount,
-        clock,
-        scratch,
-        journal,
-    ) {
-        Swiped::Serial(s) => {
-            *serial = s;
-            0
-        }
-        Swiped::Refused(why) => reasons::number(why),
-    }
-}
+ghost use Rattle.c_box.specs.Calls.{Swipes};
 
 #[no_mangle]
 pub extern "C" fn gw_swipe(
@@ -55,7 +19,7 @@ pub extern "C" fn gw_swipe(
     ensures { λ r. ⌜ Swipes (given Two (now (stream .entry)) bits (now (site .entry)) (now (acquirer .entry))) amount clock
         (now (scratch .entry)) (now (journal .entry)) (now (serial .entry)) r (now (serial .exit)) (now (scratch .exit)) (now (journal .exit)) ⌝ }
 {
-    swipe_on(
+    c_box::swipe(
         Track::Two,
         stream,
         bits,
@@ -84,7 +48,7 @@ pub extern "C" fn gw_swipe1(
     ensures { λ r. ⌜ Swipes (given One (now (stream .entry)) bits (now (site .entry)) (now (acquirer .entry))) amount clock
         (now (scratch .entry)) (now (journal .entry)) (now (serial .entry)) r (now (serial .exit)) (now (scratch .exit)) (now (journal .exit)) ⌝ }
 {
-    swipe_on(
+    c_box::swipe(
         Track::One,
         stream,
         bits,

@@ -1,0 +1,42 @@
+-- What each function on the journal and the swipe allows, in the header's order. Assumes nothing.
+use Prim.Native.Nat.{ℕ}
+use mathlib.Core.List.{List}
+use Rattle.bits.specs.Stream.{bitN}
+use Rattle.slots.specs.Views.{Seen}
+use Rattle.journal.specs.Rules.{Books, Releases, Finds, TellsOf, saidBooked, saidReleased, saidShown, saidTold}
+use Rattle.journal.specs.Survey.{Surveys, saidSurveyed}
+use Rattle.walker.specs.Steps.{walkRule, startRule, stepRule}
+use Rattle.swipe.specs.Swipe.{Given, saidSwiped}
+use Rattle.swipe.specs.Swipe as swipe
+use Rattle.hands.specs.Hands.{Hands, HandsOn}
+
+-- ---- the journal
+
+abbrev pub JournalBooks : List ℕ → List ℕ → ℕ → ℕ → ℕ → ℕ → ℕ → ℕ → List ℕ → Type 0
+JournalBooks j pan label amount clock x r y k = HandsOn (λ q. Books j pan label amount clock q k) saidBooked x (λ v. v) r y
+
+abbrev pub JournalReleases : List ℕ → ℕ → ℕ × ℕ → ℕ → ℕ × ℕ → List ℕ → Type 0
+JournalReleases j serial x r y k = HandsOn (λ q. Releases j serial q k) saidReleased x (λ t. (t .count, t .sum)) r y
+
+abbrev pub JournalShows : List ℕ → ℕ → ℕ → ℕ → ℕ → Type 0
+JournalShows j serial x r y = HandsOn (Finds j serial) saidShown x (λ v. v) r y
+
+abbrev pub JournalTells : List ℕ → ℕ × ℕ × ℕ × ℕ → ℕ → ℕ × ℕ × ℕ × ℕ → Type 0
+JournalTells j x r y = HandsOn (TellsOf j) saidTold x (λ t. (t .count, t .sum, t .oldest, t .newest)) r y
+
+abbrev pub JournalWalks : List ℕ → ℕ → ℕ × ℕ → ℕ → ℕ × ℕ → Type 0
+JournalWalks j above x r y = Seen j (λ m. Hands (walkRule m j above) x (λ v. v) r y)
+
+abbrev pub WalkStarts : List ℕ → ℕ → ℕ → ℕ → Type 0
+WalkStarts j x r y = Seen j (λ m. Hands (startRule m j) x (λ v. v) r y)
+
+abbrev pub WalkSteps : List ℕ → ℕ → ℕ × ℕ → ℕ → ℕ × ℕ → Type 0
+WalkSteps j serial x r y = Hands (stepRule j serial) x (λ v. v) r y
+
+abbrev pub JournalSurveys : List ℕ → List ℕ → ℕ → ℕ → ℕ → List ℕ → Type 0
+JournalSurveys j out x r y k = HandsOn (λ q. Surveys j out q k) saidSurveyed x bitN r y
+
+-- ---- the swipes, of the track that is given: u is the scratch, lent as t, and k the journal, lent as j
+
+abbrev pub Swipes : Given → ℕ → ℕ → List ℕ → List ℕ → ℕ → ℕ → ℕ → List ℕ → List ℕ → Type 0
+Swipes g amount clock t j x r y u k = HandsOn (λ q. swipe.Swipes g amount clock t j q u k) saidSwiped x (λ v. v) r y
