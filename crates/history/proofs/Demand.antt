@@ -92,7 +92,7 @@ none-held j =
     let z : 0 - slotsOf j ≡ 0 = omega arith in
     ap (λ (m : ℕ). heldAfter j (slotsOf j) m (0 - m)) z
 
-zeros-open : (n : ℕ) → 1 ≤ n → n ≤ 2048 → Open (replicate (32 * n) 0) 0 0
+pub zeros-open : (n : ℕ) → 1 ≤ n → n ≤ 2048 → Open (replicate (32 * n) 0) 0 0
 zeros-open n l h =
     let e : length {A = ℕ} (replicate (32 * n) 0) ≡ 32 * n = length-replicate (32 * n) 0 in
     record {

@@ -12,11 +12,7 @@ use Rattle.swipe.proofs.Laws.{ComesTo, refusal, one-booking, swipe-comes-to}
 use Rattle.history.specs.History.{Done, Run, Demand3, SameCalls, SameOutcomes}
 use Rattle.history.proofs.Demand.{from-zeros}
 use Rattle.history.proofs.Twins.{clocks-same, twins}
-use Rattle.history.specs.declared.Totals.{Totals}
-use Rattle.history.specs.declared.Replayed.{Replayed}
-use Rattle.history.specs.Script.{PlaysAll, replayRule, Replays}
-use Rattle.history.proofs.One.{one-run, one-replay}
-use Rattle.history.proofs.Scripts.{plays-run}
+use Rattle.history.proofs.One.{one-run}
 
 -- "the amounts of all payments answered as booked add up to the amounts still held plus those the host has released; the released ones are
 -- those up to the highest serial of any release not refused; no payment is lost or made up"
@@ -34,22 +30,15 @@ swiped-card g amount clock t j s u k w = go (swipe-comes-to g amount clock t j (
 
 -- "change the clock readings at will: every answer and every journal byte stays the same, clock fields apart, in the journal and in each
 -- record handed out"; from an all-zero journal, and from any two that differ in clock fields alone
-pub clocks-decide-nothing : (n : ℕ) (ds es : List Done) (j k : List ℕ) → Run (replicate (32 * n) 0) ds j → Run (replicate (32 * n) 0) es k → SameCalls ds es → SameOutcomes ds es
+pub clocks-decide-nothing : (n : ℕ) (ds es : List Done) (j k : List ℕ) → Run (replicate (32 * n) 0) ds j → Run (replicate (32 * n) 0) es k
+    → SameCalls ds es → SameOutcomes ds es
 clocks-decide-nothing n ds es j k = twins (clocks-same (replicate (32 * n) 0))
 
-pub clocks-decide-nothing-from : (i j : List ℕ) → SameButClocks i j → (ds es : List Done) (k l : List ℕ) → Run i ds k → Run j es l → SameCalls ds es → SameOutcomes ds es
+pub clocks-decide-nothing-from : (i j : List ℕ) → SameButClocks i j → (ds es : List Done) (k l : List ℕ) → Run i ds k → Run j es l
+    → SameCalls ds es → SameOutcomes ds es
 clocks-decide-nothing-from i j s ds es k l = twins s
 
 -- any two runs of the same calls at the same clock readings are equal: every answer, and the bytes after every call
 pub run-one : (j : List ℕ) (ds es : List Done) (k l : List ℕ) → Run j ds k → Run j es l → SameCalls ds es
     → map (λ (d : Done). d .clock) ds ≡ map (λ (d : Done). d .clock) es → (ds ≡ es) × (k ≡ l)
 run-one j ds es k l = one-run
-
--- "on code": what replay plays on an all-zero journal is such a sequence of calls
-pub replay-keeps : (n : ℕ) → 1 ≤ n → n ≤ 2048 → (s site acquirer t : List ℕ) (r : Totals) (u k : List ℕ) (w : PlaysAll s site acquirer t (replicate (32 * n) 0) r u k) → Demand3 (w .done) k
-replay-keeps n l h s site acquirer t r u k w = from-zeros n l h (w .done) k (plays-run (w .plays))
-
--- any two outcomes that replay allows are equal: answer, scratch and journal
-pub replay-one : (s site acquirer t j : List ℕ) (r q : Replayed) (u v k l : List ℕ)
-    → Replays s site acquirer t j (replayRule s) r u k → Replays s site acquirer t j (replayRule s) q v l → (r ≡ q) × (u ≡ v) × (k ≡ l)
-replay-one s site acquirer t j = one-replay s site acquirer t j (replayRule s)

@@ -5,5 +5,5 @@ pub mod Account
 pub mod Demand
 pub mod Twins
 pub mod One
-pub mod Scripts
+pub mod Runs
 pub mod Laws

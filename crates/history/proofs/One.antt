@@ -1,6 +1,6 @@
 -- Each call allows one outcome, and so does each run. Assumes nothing.
-use Prim.Native.Nat.{ℕ, _+_}
-use mathlib.Core.Path.{_≡_, refl, sym, ap, _∙_, subst, subst⁻¹}
+use Prim.Native.Nat.{ℕ}
+use mathlib.Core.Path.{_≡_, refl, sym, _∙_, subst, subst⁻¹}
 use mathlib.Core.List.{List, _∷_, map}
 use Rattle.reasons.specs.Reasons.{Outcome}
 use Rattle.slots.proofs.Views.{one-view}
@@ -9,11 +9,9 @@ use Rattle.journal.proofs.Laws.{one-booking, one-release, one-finding, one-tell
 use Rattle.journal.proofs.Surveys.{one-survey}
 use Rattle.swipe.proofs.Laws.{swipe-one}
 use Rattle.walker.specs.Walk.{heldRule}
-use Rattle.history.specs.History.{Call, book, swipe, release, reads, Question, find, show, showNumber, tell, survey, walkStart, walkNumber, walkRecord, walkOn, walkAbove, walkFirst, walkStep, aside, AnswerTo, ReplyTo, Replies, Part, Does, Done, Run, no-more, next, SameCalls, no-calls, same-call}
-use Rattle.history.specs.declared.Totals.{Totals}
-use Rattle.history.specs.declared.Replayed.{Replayed}
-use Rattle.history.specs.declared.Replayed.the-variants.{Played}
-use Rattle.history.specs.Script.{scratchLeft, Plays, no-record, one-record, TotalsOf, Replays, played, not-whole, too-long}
+use Rattle.history.specs.History.{Question, find, show, showNumber, tell, survey, ReplyTo, Replies, Part}
+use Rattle.history.specs.History.{walkStart, walkNumber, walkRecord, walkOn, walkAbove, walkFirst, walkStep}
+use Rattle.history.specs.History.{Call, book, swipe, release, reads, aside, AnswerTo, Does, Done, Run, no-more, next, SameCalls, no-calls, same-call}
 use Rattle.history.proofs.Twins.{IsPart, the-part, no-part, shown-part, walked-part}
 
 part-one : (j : List ℕ) (o : Outcome ℕ) (p q : Part) → IsPart j o p → IsPart j o q → p ≡ q
@@ -45,7 +43,8 @@ one-outcome j t (reads n) a d l m p q = (one-reply j n a d (p .0) (q .0), p .1 �
 one-outcome j t aside a d l m p q = (refl, p ∙ sym q)
 
 -- the calls and the clock readings decide a run: every answer, and the bytes after every call
-pub one-run : {j k l : List ℕ} {ds es : List Done} → Run j ds k → Run j es l → SameCalls ds es → map (λ (d : Done). d .clock) ds ≡ map (λ (d : Done). d .clock) es → (ds ≡ es) × (k ≡ l)
+pub one-run : {j k l : List ℕ} {ds es : List Done} → Run j ds k → Run j es l → SameCalls ds es
+    → map (λ (d : Done). d .clock) ds ≡ map (λ (d : Done). d .clock) es → (ds ≡ es) × (k ≡ l)
 one-run no-more no-more no-calls e = (refl, refl)
 one-run {j} {k} {l} (next d p on) (next f q off) (same-call {c = c} {t = t} {u = u} {a = a} {b = b} {k = m} {l = n} {ds = ds} {es = es} rest) e =
     let now : u ≡ t = cc in
@@ -53,39 +52,3 @@ one-run {j} {k} {l} (next d p on) (next f q off) (same-call {c = c} {t = t} {u =
     let w = one-outcome j t c a b m n p (subst (λ (x : ℕ). Does j x c b n) now q) in
     let r = one-run on (subst⁻¹ (λ (i : List ℕ). Run i es l) (w .1) off) rest later in
     ((λ i. record { clock = sym now i; call = c; answer = w .0 i; after = w .1 i } ∷ r .0 i), r .1)
-
--- ---- replay
-
--- a call that was made is told by its clock reading and its arguments
-one-done : (j : List ℕ) (d : Done) (t : ℕ) (c : Call) → d .clock ≡ t → d .call ≡ c → Does j (d .clock) (d .call) (d .answer) (d .after)
-    → (a : AnswerTo c) (k : List ℕ) → Does j t c a k → d ≡ record { clock = t; call = c; answer = a; after = k }
-one-done j d t c et ec w =
-    subst (λ (x : ℕ). (a : AnswerTo c) (k : List ℕ) → Does j x c a k → d ≡ record { clock = x; call = c; answer = a; after = k }) et
-    (subst (λ (x : Call). (a : AnswerTo x) (k : List ℕ) → Does j (d .clock) x a k → d ≡ record { clock = d .clock; call = x; answer = a; after = k }) ec
-    (λ a k v. let o = one-outcome j (d .clock) (d .call) (d .answer) a (d .after) k w v in λ i. record { clock = d .clock; call = d .call; answer = o .0 i; after = o .1 i }))
-
-plays-one : {s site acquirer t j u k v l : List ℕ} {i m : ℕ} {ds es : List Done} → Plays s site acquirer i m t j ds u k → Plays s site acquirer i m t j es v l
-    → (ds ≡ es) × (u ≡ v) × (k ≡ l)
-plays-one no-record no-record = (refl, refl, refl)
-plays-one {s} {site} {acquirer} {t} {j} {u} {k} {v} {l} (one-record {i = i} {m = m} {ds = ds} d ec et w p) (one-record e fc ft x q) =
-    let de : d ≡ e = one-done j d (e .clock) (e .call) (et ∙ sym ft) (ec ∙ sym fc) w (e .answer) (e .after) x in
-    let r = plays-one (subst (λ (y : Done). Plays s site acquirer (i + 1) m (scratchLeft (y .call) (y .answer) t) (y .after) ds u k) de p) q in
-    ((λ n. de n ∷ r .0 n), r .1, r .2)
-
-totals-one : (ds : List Done) (r q : Totals) → TotalsOf ds r → TotalsOf ds q → r ≡ q
-totals-one ds r q a b = λ i. record {
-  booked = (a .booked-is ∙ sym (b .booked-is)) i;
-  takings = (a .takings-is ∙ sym (b .takings-is)) i;
-  released = (a .released-is ∙ sym (b .released-is)) i;
-  remitted = (a .remitted-is ∙ sym (b .remitted-is)) i;
-  refused = (a .refused-is ∙ sym (b .refused-is)) i;
-  skipped = (a .skipped-is ∙ sym (b .skipped-is)) i;
-}
-
-pub one-replay : (s site acquirer t j : List ℕ) (o : Outcome (Unit {0})) (r q : Replayed) (u v k l : List ℕ)
-    → Replays s site acquirer t j o r u k → Replays s site acquirer t j o q v l → (r ≡ q) × (u ≡ v) × (k ≡ l)
-one-replay s site acquirer t j o r q u v k l (played {r = x} a) (played {r = y} b) =
-    let w = plays-one (a .plays) (b .plays) in
-    (ap Played (totals-one (b .done) x y (subst (λ (ds : List Done). TotalsOf ds x) (w .0) (a .totals)) (b .totals)), w .1, w .2)
-one-replay s site acquirer t j o r q u v k l not-whole not-whole = (refl, refl, refl)
-one-replay s site acquirer t j o r q u v k l too-long too-long = (refl, refl, refl)

@@ -1,8 +1,8 @@
 // The battery swap: forty payments in a journal of 16 slots. In the middle the clock starts at the epoch again; releases arrive late and twice;
 // the journal is full for a while. Nothing is lost.
-use history::Replayed;
-use history::Totals;
 use journal::Told;
+use replay::Replayed;
+use replay::Totals;
 
 // The spring, a byte a call: `p` a payment, `?` a record of no known kind, any other a release up to its number less that of `@`: D is 4.
 const SPRING: [u8; 50] = *b"ppppppppppppDppppppppppJJppppppIZppppppppppppppa~?";
@@ -95,7 +95,7 @@ fn told(out: &mut [u8; 4096], t: Totals, journal: &[u8]) {
 // A script played on a journal, with this table of ranges and scratch for either track.
 pub fn played(out: &mut [u8; 4096], script: &[u8], site: &[u8], journal: &mut [u8]) {
     let mut scratch = [0u8; 76];
-    match history::replay(script, site, b"", &mut scratch, journal) {
+    match replay::replay(script, site, b"", &mut scratch, journal) {
         Replayed::Played(t) => told(out, t, journal),
         Replayed::NotWhole => say::words(out, b"no whole number of records\n"),
         Replayed::TooLong => say::words(out, b"too many records\n"),

@@ -1,8 +1,11 @@
 use native.Mathlib.Omega.{arith}
-use Rattle.history.proofs.Scripts.{same-release, release-refused-came, released-came}
+use Rattle.replay.proofs.Scripts.{same-release, release-refused-came, released-came}
 use borrow.Author.Needs.{needs}
-use Rattle.history.proofs.play_release.Statement.{statement}
-use Rattle.history.proofs.play_release.Tie as tie
+use Rattle.replay.proofs.inner.play_release.Statement.{statement}
+use Rattle.replay.proofs.inner.play_release.Tie as tie
+
+abbrev answered : tie.After-slice-known2 → tie.After-release
+answered c = c .before .before
 
 add-u32-at : tie.Need-add-u32-at
 add-u32-at c = search needs
@@ -30,7 +33,7 @@ same-length c = search needs
 
 returns : tie.Need-returns
 returns c = λ t.
-    let b = c .before .before .before .before .before in
+    let b = answered (c .before .before .before) in
     same-release _ t _ _ _ (b .before .before .u32-at .ensures)
     (release-refused-came _ _ t _ _ _ (b .release .ensures) _ _ (c .before .enum-told .given .1) (c .counted .ensures))
 
@@ -39,7 +42,7 @@ same-length-2 c = search needs
 
 returns-2 : tie.Need-returns-2
 returns-2 c = λ t.
-    let b = c .before .before .before .before .before in
+    let b = answered (c .before .before .before) in
     same-release _ t _ _ _ (b .before .before .u32-at .ensures)
     (released-came _ _ t _ _ _ (b .release .ensures) (λ i. omega (arith, b .before .before .before .slice-known .given i)) _ _ (c .before .count .given .1))
 

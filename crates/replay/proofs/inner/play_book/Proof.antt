@@ -1,7 +1,10 @@
-use Rattle.history.proofs.Scripts.{same-book, pan-is, book-refused-came, booked-came}
+use Rattle.replay.proofs.Scripts.{same-book, pan-is, book-refused-came, booked-came}
 use borrow.Author.Needs.{needs}
-use Rattle.history.proofs.play_book.Statement.{statement}
-use Rattle.history.proofs.play_book.Tie as tie
+use Rattle.replay.proofs.inner.play_book.Statement.{statement}
+use Rattle.replay.proofs.inner.play_book.Tie as tie
+
+abbrev answered : tie.After-slice-known2 → tie.After-book
+answered c = c .before .before
 
 pan-length-requires : tie.Need-pan-length-requires
 pan-length-requires c κs = search needs
@@ -65,8 +68,11 @@ same-length c = search needs
 
 returns : tie.Need-returns
 returns c = λ t.
-    let b = c .before .before .before .before .before in
-    same-book t _ _ _ (pan-is _ (b .before .before .before .before .before .before .before .before .before .args .at) _ (b .before .before .before .before .before .before .pan-length .ensures .0)) (b .before .before .before .before .before .u16-at .ensures) (b .before .before .before .before .u32-at .ensures) (b .before .before .before .u32-at2 .ensures)
+    let b = answered (c .before .before .before) in
+    let f = b .before .before .before in
+    let n = f .before .before .before in
+    same-book t _ _ _ (pan-is _ (n .before .before .before .args .at) _ (n .pan-length .ensures .0))
+    (f .before .before .u16-at .ensures) (f .before .u32-at .ensures) (f .u32-at2 .ensures)
     (book-refused-came _ _ _ _ (search needs) t _ _ _ (b .book .ensures) _ _ (c .before .enum-told .given .1) (c .counted .ensures))
 
 same-length-2 : tie.Need-same-length-2
@@ -74,8 +80,11 @@ same-length-2 c = search needs
 
 returns-2 : tie.Need-returns-2
 returns-2 c = λ t.
-    let b = c .before .before .before .before .before in
-    same-book t _ _ _ (pan-is _ (b .before .before .before .before .before .before .before .before .before .args .at) _ (b .before .before .before .before .before .before .pan-length .ensures .0)) (b .before .before .before .before .before .u16-at .ensures) (b .before .before .before .before .u32-at .ensures) (b .before .before .before .u32-at2 .ensures)
+    let b = answered (c .before .before .before) in
+    let f = b .before .before .before in
+    let n = f .before .before .before in
+    same-book t _ _ _ (pan-is _ (n .before .before .before .args .at) _ (n .pan-length .ensures .0))
+    (f .before .before .u16-at .ensures) (f .before .u32-at .ensures) (f .u32-at2 .ensures)
     (booked-came _ _ _ _ (search needs) t _ _ _ (b .book .ensures) _ _ (c .before .enum-told2 .given .1) (c .counted2 .ensures))
 
 pub play-book-spec : {M : Type 1} → statement M

@@ -5,14 +5,13 @@ use mathlib.Core.Bool.{Bool, true, false, cond}
 use mathlib.Core.List.{List, [], _∷_, _++_, map, append-nil}
 use native.Mathlib.Omega.{arith}
 use native.Mathlib.Decide.{decLe}
-use lib.Dec.{leb}
 use lib.ListN.{getD, length, take, drop, length-append, length-map}
 use lib.Seq.{getD-take, getD-drop}
 use borrow.Author.Tests.{eq-eqb, ne-eqb, le-leb, lt-leb}
 use Rattle.text.specs.Bytes.{within}
 use Rattle.text.specs.Numbers.{u32At}
 use Rattle.text.proofs.Tests.{inside-is}
-use Rattle.reasons.specs.Reasons.{Outcome, gives, demand}
+use Rattle.reasons.specs.Reasons.{Outcome, gives, refuses}
 use Rattle.reasons.specs.declared.Reason.{Reason}
 use Rattle.reasons.proofs.Laws.{passed}
 use Rattle.slots.specs.Journal.{Formed, NewestIs, slotsOf, stateOf, place}
@@ -27,24 +26,26 @@ use Rattle.journal.specs.declared.Booked.the-variants as booking
 use Rattle.journal.specs.declared.Released.{Released}
 use Rattle.journal.specs.declared.Released.the-variants as releasing
 use Rattle.journal.proofs.Lists.{held-at-most}
+use Rattle.journal.proofs.Calls.{sum-append}
 use Rattle.layout.specs.declared.Track.{Track}
 use Rattle.layout.specs.declared.Track.the-variants.{Two, One}
 use Rattle.swipe.specs.Swipe.{Given, Payer, Swipes}
 use Rattle.swipe.specs.declared.Swiped.{Swiped}
 use Rattle.swipe.specs.declared.Swiped.the-variants as swiping
 use Rattle.swipe.proofs.Laws.{ComesTo, refusal, one-booking, swipe-comes-to}
-use Rattle.journal.proofs.Calls.{sum-append}
-use Rattle.history.specs.declared.Totals.{Totals}
-use Rattle.history.specs.declared.Replayed.the-variants.{Played, NotWhole, TooLong}
-use Rattle.history.specs.History.{Call, book, swipe, release, aside, AnswerTo, Does, Done, Payment, takings, Effect, booked-one, released-to, nothing, ofSwipe, effect, effectOf, bookedIn, countIn, sumIn, booked, freedCount, freedSum, recordOf, Run, no-more, next}
-use Rattle.history.specs.Script.{kindAt, panAt, labelAt, amountAt, clockAt, serialAt, streamAt, swipeAt, callAt, scratchLeft, Plays, no-record, one-record, refusedIn, skippedIn, refusedCount, skippedCount, TotalsOf, PlaysAll, PlaysOne, Adds, replayRule, Replays, played, not-whole, too-long, Conserved}
+use Rattle.history.specs.History.{Call, book, swipe, release, aside, AnswerTo, Does, Done, Run, no-more, next, Payment, recordOf, takings}
+use Rattle.history.specs.History.{Effect, booked-one, released-to, nothing, ofSwipe, effect, effectOf, bookedIn, countIn, sumIn, booked, freedCount, freedSum}
 use Rattle.history.proofs.Account.{Open, account}
 use Rattle.history.proofs.Demand.{sum-records}
+use Rattle.history.proofs.Runs.{booked-append, freed-count-append, freed-sum-append, takings-append}
+use Rattle.replay.specs.declared.Totals.{Totals}
+use Rattle.replay.specs.declared.Replayed.the-variants.{Played, NotWhole, TooLong}
+use Rattle.replay.specs.Script.{kindAt, panAt, labelAt, amountAt, clockAt, serialAt, streamAt, swipeAt, callAt, scratchLeft}
+use Rattle.replay.specs.Script.{Plays, no-record, one-record, refusedIn, skippedIn, refusedCount, skippedCount, TotalsOf}
+use Rattle.replay.specs.Script.{Nothing, Bounded, PlaysOne, PlaysAll, Fits, Adds}
+use Rattle.replay.specs.Script.{replayRule, Replays, played, not-whole, too-long, Conserved}
 
 -- ---- the totals of one call
-
-abbrev pub Nothing : ℕ → ℕ → Totals → Type 0
-Nothing refused skipped r = (r .booked ≡ 0) × (r .takings ≡ 0) × (r .released ≡ 0) × (r .remitted ≡ 0) × (r .refused ≡ refused) × (r .skipped ≡ skipped)
 
 record Tells (e : Effect) (c : Call) (r : Totals) : Type 0 where
   booked : r .booked ≡ length (bookedIn e)
@@ -69,7 +70,8 @@ totals-of d e r q w =
     }
 
 -- a call that is refused, and a record that makes none
-pub nothing-came : (c : Call) (clock : ℕ) (a : AnswerTo c) (t j : List ℕ) (r : Totals) (u k : List ℕ) → effect clock c a ≡ nothing → refusedIn c nothing + skippedIn c ≤ 1
+pub nothing-came : (c : Call) (clock : ℕ) (a : AnswerTo c) (t j : List ℕ) (r : Totals) (u k : List ℕ)
+    → effect clock c a ≡ nothing → refusedIn c nothing + skippedIn c ≤ 1
     → Does j clock c a k → u ≡ scratchLeft c a t → Nothing (refusedIn c nothing) (skippedIn c) r → PlaysOne c clock t j r u k
 unfolding takings
 nothing-came c clock a t j r u k e small w s n =
@@ -86,7 +88,8 @@ nothing-came c clock a t j r u k e small w s n =
 abbrev pub Paid : ℕ → Totals → Type 0
 Paid amount r = (r .booked ≡ 1) × (r .takings ≡ amount) × (r .released ≡ 0) × (r .remitted ≡ 0) × (r .refused ≡ 0) × (r .skipped ≡ 0)
 
-payment-came : (c : Call) (clock : ℕ) (a : AnswerTo c) (p : Payment) (t j : List ℕ) (r : Totals) (u k : List ℕ) → effect clock c a ≡ booked-one p → p .amount < 4294967296
+payment-came : (c : Call) (clock : ℕ) (a : AnswerTo c) (p : Payment) (t j : List ℕ) (r : Totals) (u k : List ℕ)
+    → effect clock c a ≡ booked-one p → p .amount < 4294967296
     → refusedIn c (booked-one p) ≡ 0 → skippedIn c ≡ 0 → Does j clock c a k → u ≡ scratchLeft c a t → Paid (p .amount) r → PlaysOne c clock t j r u k
 unfolding takings
 payment-came c clock a p t j r u k e small x y w s n =
@@ -104,7 +107,8 @@ payment-came c clock a p t j r u k e small x y w s n =
 module _ (pan : List ℕ) (label amount clock : ℕ) (small : amount < 4294967296) (t j k : List ℕ) (q : Booked) (w : Books j pan label amount clock q k) where
   pub book-refused-came : (x : Reason) (r : Totals) → q ≡ booking.Refused x → Nothing 1 0 r → PlaysOne (book pan label amount) clock t j r t k
   book-refused-came x r e n =
-      nothing-came (book pan label amount) clock (booking.Refused x) t j r t k refl (omega arith) (small, subst (λ (a : Booked). Books j pan label amount clock a k) e w) refl n
+      nothing-came (book pan label amount) clock (booking.Refused x) t j r t k refl (omega arith)
+      (small, subst (λ (a : Booked). Books j pan label amount clock a k) e w) refl n
 
   pub booked-came : (s : ℕ) (r : Totals) → q ≡ booking.Serial s → Paid amount r → PlaysOne (book pan label amount) clock t j r t k
   booked-came s r e n =
@@ -112,7 +116,8 @@ module _ (pan : List ℕ) (label amount clock : ℕ) (small : amount < 429496729
       refl small refl refl (small, subst (λ (a : Booked). Books j pan label amount clock a k) e w) refl n
 
 pub same-book : {pan pan' : List ℕ} {label label' amount amount' clock clock' : ℕ} (t j : List ℕ) (r : Totals) (k : List ℕ)
-    → pan ≡ pan' → label ≡ label' → amount ≡ amount' → clock ≡ clock' → PlaysOne (book pan label amount) clock t j r t k → PlaysOne (book pan' label' amount') clock' t j r t k
+    → pan ≡ pan' → label ≡ label' → amount ≡ amount' → clock ≡ clock'
+    → PlaysOne (book pan label amount) clock t j r t k → PlaysOne (book pan' label' amount') clock' t j r t k
 same-book {pan} {pan'} {label} {label'} {amount} {amount'} {clock} {clock'} t j r k ep el ea ec w =
     subst (λ (x : List ℕ). PlaysOne (book x label' amount') clock' t j r t k) ep
     (subst (λ (x : ℕ). PlaysOne (book pan x amount') clock' t j r t k) el
@@ -124,7 +129,8 @@ same-book {pan} {pan'} {label} {label'} {amount} {amount'} {clock} {clock'} t j 
 module _ (g : Given) (amount clock : ℕ) (small : amount < 4294967296) (t j u k : List ℕ) (q : Swiped) (w : Swipes g amount clock t j q u k) where
   pub swipe-refused-came : (x : Reason) (r : Totals) → q ≡ swiping.Refused x → Nothing 1 0 r → PlaysOne (swipe g amount t) clock t j r u k
   swipe-refused-came x r e n =
-      nothing-came (swipe g amount t) clock (record { says = swiping.Refused x; scratch = u }) t j r u k refl (omega arith) (small, subst (λ (a : Swiped). Swipes g amount clock t j a u k) e w) refl n
+      nothing-came (swipe g amount t) clock (record { says = swiping.Refused x; scratch = u }) t j r u k refl (omega arith)
+      (small, subst (λ (a : Swiped). Swipes g amount clock t j a u k) e w) refl n
 
   pub swiped-came : (s : ℕ) (r : Totals) → q ≡ swiping.Serial s → Paid amount r → PlaysOne (swipe g amount t) clock t j r u k
   swiped-came s r e n = go (swipe-comes-to g amount clock t j q u k w)
@@ -132,8 +138,10 @@ module _ (g : Given) (amount clock : ℕ) (small : amount < 4294967296) (t j u k
       go : ComesTo g amount clock j q k → PlaysOne (swipe g amount t) clock t j r u k
       go (refusal x f h) = let z : _≡_ {A = ℕ} 0 1 = cc in absurd (omega arith)
       go (one-booking p f h) =
-          payment-came (swipe g amount t) clock (record { says = swiping.Serial s; scratch = u }) (record { serial = s; clock = clock; amount = amount; label = p .label; pan = p .pan }) t j r u k
-          (ap (λ (o : Outcome Payer). ofSwipe (swiping.Serial s) o clock amount) f) small refl refl (small, subst (λ (a : Swiped). Swipes g amount clock t j a u k) e w) refl n
+          payment-came (swipe g amount t) clock (record { says = swiping.Serial s; scratch = u })
+          (record { serial = s; clock = clock; amount = amount; label = p .label; pan = p .pan }) t j r u k
+          (ap (λ (o : Outcome Payer). ofSwipe (swiping.Serial s) o clock amount) f) small refl refl
+          (small, subst (λ (a : Swiped). Swipes g amount clock t j a u k) e w) refl n
 
 pub same-swipe : {g g' : Given} {amount amount' clock clock' : ℕ} (t j : List ℕ) (r : Totals) (u k : List ℕ)
     → g ≡ g' → amount ≡ amount' → clock ≡ clock' → PlaysOne (swipe g amount t) clock t j r u k → PlaysOne (swipe g' amount' t) clock' t j r u k
@@ -163,14 +171,16 @@ module _ (j : List ℕ) (bytes : (i : ℕ) → getD j i 0 < 256) where
       go true h = let a = amount-fits n (low + 1) in omega arith
       go false h = omega arith
 
-  freed-fits : (m : Newest) (s c y : ℕ) → NewestIs j m → _≡_ {A = Outcome Tally} (gives (record { count = c; sum = y })) (releaseRule m j s) → (c ≤ 2048) × (y ≤ 8796093020160)
+  freed-fits : (m : Newest) (s c y : ℕ) → NewestIs j m → _≡_ {A = Outcome Tally} (gives (record { count = c; sum = y })) (releaseRule m j s)
+      → (c ≤ 2048) × (y ≤ 8796093020160)
   unfolding releaseRule
   freed-fits Malformed s c y is e = let z : _≡_ {A = ℕ} 0 1 = cc in absurd (omega arith)
   freed-fits (Is b) s c y f e =
       let n : ℕ = slotsOf j in
-      let a = passed (within 1 b s) 20 (gives (record { count = length (heldUpTo j b s); sum = sumOf (heldUpTo j b s) })) (record { count = c; sum = y }) (sym e) in
+      let freed : Tally = record { count = length (heldUpTo j b s); sum = sumOf (heldUpTo j b s) } in
+      let a = passed (within 1 b s) 20 (gives freed) (record { count = c; sum = y }) (sym e) in
       let r = inside-is 1 b s (a .0) in
-      let t : _≡_ {A = Tally} (record { count = length (heldUpTo j b s); sum = sumOf (heldUpTo j b s) }) (record { count = c; sum = y }) = cc (a .1) in
+      let t : freed ≡ record { count = c; sum = y } = cc (a .1) in
       let ec : length (heldUpTo j b s) ≡ c = ap (λ (x : Tally). x .count) t in
       let ey : sumOf (heldUpTo j b s) ≡ y = ap (λ (x : Tally). x .sum) t in
       let lc = held-at-most j n (b - n) (s - (b - n)) in
@@ -242,9 +252,9 @@ module _ (s site acquirer t : List ℕ) (at : ℕ) where
 pub as-call : {c c' : Call} (clock : ℕ) (t j : List ℕ) (r : Totals) (u k : List ℕ) → c ≡ c' → PlaysOne c clock t j r u k → PlaysOne c' clock t j r u k
 as-call clock t j r u k e w = subst (λ (c : Call). PlaysOne c clock t j r u k) e w
 
--- ---- one record after another
+-- ---- what calls one after another come to
 
-abbrev sum : Totals → Totals → Totals
+abbrev pub sum : Totals → Totals → Totals
 sum t u = record {
   booked = t .booked + u .booked;
   takings = t .takings + u .takings;
@@ -254,30 +264,62 @@ sum t u = record {
   skipped = t .skipped + u .skipped;
 }
 
-takings-append : (ps qs : List Payment) → takings (ps ++ qs) ≡ takings ps + takings qs
-unfolding takings
-takings-append [] qs = omega arith
-takings-append (p ∷ ps) qs = let ih = takings-append ps qs in omega arith
+refused-append : (ds es : List Done) → refusedCount (ds ++ es) ≡ refusedCount ds + refusedCount es
+unfolding refusedCount
+refused-append [] es = omega arith
+refused-append (d ∷ ds) es = let ih = refused-append ds es in omega arith
 
-totals-cons : (d : Done) (ds : List Done) (t u : Totals) → TotalsOf (d ∷ []) t → TotalsOf ds u → TotalsOf (d ∷ ds) (sum t u)
-unfolding booked freedCount freedSum refusedCount skippedCount
-totals-cons d ds t u v w =
-    let e : bookedIn (effectOf d) ++ [] ≡ bookedIn (effectOf d) = append-nil (bookedIn (effectOf d)) in
+skipped-append : (ds es : List Done) → skippedCount (ds ++ es) ≡ skippedCount ds + skippedCount es
+unfolding skippedCount
+skipped-append [] es = omega arith
+skipped-append (d ∷ ds) es = let ih = skipped-append ds es in omega arith
+
+-- calls after others come to the sum of both
+pub totals-append : (ds es : List Done) (t u y : Totals) → TotalsOf ds t → TotalsOf es u → Adds t u y → TotalsOf (ds ++ es) y
+totals-append ds es t u y v w a =
+    let e : booked ds ++ booked es ≡ booked (ds ++ es) = sym (booked-append ds es) in
     record {
-      booked-is = (λ i. (v .booked-is ∙ ap length e) i + w .booked-is i) ∙ sym (length-append (bookedIn (effectOf d)) (booked ds));
-      takings-is = (λ i. (v .takings-is ∙ ap takings e) i + w .takings-is i) ∙ sym (takings-append (bookedIn (effectOf d)) (booked ds));
-      released-is = omega (arith, v .released-is, w .released-is);
-      remitted-is = omega (arith, v .remitted-is, w .remitted-is);
-      refused-is = omega (arith, v .refused-is, w .refused-is);
-      skipped-is = omega (arith, v .skipped-is, w .skipped-is);
+      booked-is = a .booked ∙ (λ i. v .booked-is i + w .booked-is i) ∙ sym (length-append (booked ds) (booked es)) ∙ ap length e;
+      takings-is = a .takings ∙ (λ i. v .takings-is i + w .takings-is i) ∙ sym (takings-append (booked ds) (booked es)) ∙ ap takings e;
+      released-is = omega (arith, a .released, v .released-is, w .released-is, freed-count-append ds es);
+      remitted-is = omega (arith, a .remitted, v .remitted-is, w .remitted-is, freed-sum-append ds es);
+      refused-is = omega (arith, a .refused, v .refused-is, w .refused-is, refused-append ds es);
+      skipped-is = omega (arith, a .skipped, v .skipped-is, w .skipped-is, skipped-append ds es);
     }
+
+-- ---- how large they get
+
+pub bounded-none : (r : Totals) → Nothing 0 0 r → Bounded 0 r
+bounded-none r z = (omega (arith, z .0), omega (arith, z .1), omega (arith, z .2), omega (arith, z .3), omega (arith, z .4), omega (arith, z .5))
+
+pub bounded-more : (i : ℕ) (t u r : Totals) → Bounded i t → Bounded 1 u → Adds t u r → Bounded (i + 1) r
+bounded-more i t u r m o a = (
+  omega (arith, m .0, o .0, a .booked),
+  omega (arith, m .1, o .1, a .takings),
+  omega (arith, m .2, o .2, a .released),
+  omega (arith, m .3, o .3, a .remitted),
+  omega (arith, m .4, o .4, a .refused),
+  omega (arith, m .5, o .5, a .skipped),
+)
+
+pub bounded-fits : (i : ℕ) (t u : Totals) → i < 1048576 → Bounded i t → Bounded 1 u → Fits t u
+bounded-fits i t u h m o = (
+  omega (arith, m .0, o .0),
+  omega (arith, m .1, o .1),
+  omega (arith, m .2, o .2),
+  omega (arith, m .3, o .3),
+  omega (arith, m .4, o .4),
+  omega (arith, m .5, o .5),
+)
+
+-- ---- one record after another
 
 -- the first i of n records are played; whatever the others come to, with r before them they are all
 pub record Going (s site acquirer t j : List ℕ) (n i : ℕ) (u k : List ℕ) (r : Totals) : Type 0 where
   pub scratch-long : length u ≡ length t
   pub journal-long : length k ≡ length j
   pub in-range : i ≤ n
-  pub small : (r .booked ≤ i) × (r .takings ≤ 4294967295 * i) × (r .released ≤ 2048 * i) × (r .remitted ≤ 8796093020160 * i) × (r .refused ≤ i) × (r .skipped ≤ i)
+  pub small : Bounded i r
   pub rest : (ds : List Done) (v l : List ℕ) (x y : Totals) → Plays s site acquirer i (n - i) u k ds v l → TotalsOf ds x → Adds r x y
       → (es : List Done) × Plays s site acquirer 0 n t j es v l × TotalsOf es y
 
@@ -287,7 +329,7 @@ going-start s site acquirer t j n r z =
       scratch-long = refl;
       journal-long = refl;
       in-range = omega arith;
-      small = (omega (arith, z .0), omega (arith, z .1), omega (arith, z .2), omega (arith, z .3), omega (arith, z .4), omega (arith, z .5));
+      small = bounded-none r z;
       rest = λ ds v l x y p w a.
           let e : n - 0 ≡ n = omega arith in (
             ds,
@@ -307,27 +349,19 @@ pub going-turn : (s site acquirer t j : List ℕ) (n i : ℕ) (u k u' k' : List 
     → PlaysOne (callAt s site acquirer u (128 * i)) (clockAt s (128 * i)) u k x u' k' → Adds r x r' → length u' ≡ length u → length k' ≡ length k
     → Going s site acquirer t j n (i + 1) u' k' r'
 going-turn s site acquirer t j n i u k u' k' r x r' g h p a eu ek =
-    let m = g .small in
-    let o = p .small in
     record {
       scratch-long = eu ∙ g .scratch-long;
       journal-long = ek ∙ g .journal-long;
       in-range = omega arith;
-      small = (
-        omega (arith, m .0, o .0, a .booked),
-        omega (arith, m .1, o .1, a .takings),
-        omega (arith, m .2, o .2, a .released),
-        omega (arith, m .3, o .3, a .remitted),
-        omega (arith, m .4, o .4, a .refused),
-        omega (arith, m .5, o .5, a .skipped),
-      );
+      small = bounded-more i r x r' (g .small) (p .small) a;
       rest = λ ds v l y z q w b.
           let e : suc (n - (i + 1)) ≡ n - i = omega arith in
           let d : Done = record { clock = clockAt s (128 * i); call = callAt s site acquirer u (128 * i); answer = p .answer; after = k' } in
           g .rest (d ∷ ds) v l (sum x y) z
           (subst (λ (c : ℕ). Plays s site acquirer i c u k (d ∷ ds) v l) e
           (one-record d refl refl (p .does) (subst (λ (c : List ℕ). Plays s site acquirer (i + 1) (n - (i + 1)) c k' ds v l) (p .scratch) q)))
-          (totals-cons d ds x y (p .totals) w)
+          (totals-append (d ∷ []) ds x y (sum x y) (p .totals) w
+          (record { booked = refl; takings = refl; released = refl; remitted = refl; refused = refl; skipped = refl }))
           (record {
             booked = omega (arith, a .booked, b .booked);
             takings = omega (arith, a .takings, b .takings);
@@ -352,22 +386,30 @@ going-done s site acquirer t j i u k r g h =
 
 -- ---- what replay says
 
-pub rule-not-whole : (s site acquirer t j : List ℕ) → (length s % 128 ≡ 0 → ⊥) → Replays s site acquirer t j (replayRule s) NotWhole t j
-unfolding replayRule
-rule-not-whole s site acquirer t j h = subst⁻¹ (λ (b : Bool). Replays s site acquirer t j (demand b 6 (demand (leb (length s / 128) 1048576) 99 (gives tt))) NotWhole t j) (ne-eqb (length s % 128) 0 h) not-whole
+-- the rule on a script's length, outcome by outcome
+module _ (s : List ℕ) where
+  pub broken : (length s % 128 ≡ 0 → ⊥) → replayRule s ≡ refuses 6
+  unfolding replayRule
+  broken h = simp (ne-eqb (length s % 128) 0 h)
 
-pub rule-too-long : (s site acquirer t j : List ℕ) → length s % 128 ≡ 0 → 1048576 < length s / 128 → Replays s site acquirer t j (replayRule s) TooLong t j
-unfolding replayRule
-rule-too-long s site acquirer t j e h =
-    subst⁻¹ (λ (b : Bool). Replays s site acquirer t j (demand b 6 (demand (leb (length s / 128) 1048576) 99 (gives tt))) TooLong t j) (eq-eqb (length s % 128) 0 e)
-    (subst⁻¹ (λ (b : Bool). Replays s site acquirer t j (demand b 99 (gives tt)) TooLong t j) (lt-leb (length s / 128) 1048576 h) too-long)
+  pub too-many : length s % 128 ≡ 0 → 1048576 < length s / 128 → replayRule s ≡ refuses 99
+  unfolding replayRule
+  too-many e h = simp (eq-eqb (length s % 128) 0 e, lt-leb (length s / 128) 1048576 h)
 
-pub rule-played : (s site acquirer t j : List ℕ) (r : Totals) (u k : List ℕ) → length s % 128 ≡ 0 → length s / 128 ≤ 1048576 → PlaysAll s site acquirer t j r u k
-    → Replays s site acquirer t j (replayRule s) (Played r) u k
-unfolding replayRule
-rule-played s site acquirer t j r u k e h w =
-    subst⁻¹ (λ (b : Bool). Replays s site acquirer t j (demand b 6 (demand (leb (length s / 128) 1048576) 99 (gives tt))) (Played r) u k) (eq-eqb (length s % 128) 0 e)
-    (subst⁻¹ (λ (b : Bool). Replays s site acquirer t j (demand b 99 (gives tt)) (Played r) u k) (le-leb (length s / 128) 1048576 h) (played w))
+  pub whole : length s % 128 ≡ 0 → length s / 128 ≤ 1048576 → replayRule s ≡ gives tt
+  unfolding replayRule
+  whole e h = simp (eq-eqb (length s % 128) 0 e, le-leb (length s / 128) 1048576 h)
+
+module _ (s site acquirer t j : List ℕ) where
+  pub rule-not-whole : (length s % 128 ≡ 0 → ⊥) → Replays s site acquirer t j (replayRule s) NotWhole t j
+  rule-not-whole h = subst⁻¹ (λ o. Replays s site acquirer t j o NotWhole t j) (broken s h) not-whole
+
+  pub rule-too-long : length s % 128 ≡ 0 → 1048576 < length s / 128 → Replays s site acquirer t j (replayRule s) TooLong t j
+  rule-too-long e h = subst⁻¹ (λ o. Replays s site acquirer t j o TooLong t j) (too-many s e h) too-long
+
+  pub rule-played : (r : Totals) (u k : List ℕ) → length s % 128 ≡ 0 → length s / 128 ≤ 1048576 → PlaysAll s site acquirer t j r u k
+      → Replays s site acquirer t j (replayRule s) (Played r) u k
+  rule-played r u k e h w = subst⁻¹ (λ o. Replays s site acquirer t j o (Played r) u k) (whole s e h) (played w)
 
 -- ---- what was held and what was booked is what was released and what is held
 
@@ -401,9 +443,11 @@ conserved s site acquirer t j r u k bytes w b f =
     let held : List (List ℕ) = heldList k (b + r .booked) in
     let whole : a .gone ++ held ≡ heldList j b ++ map recordOf (booked (w .done)) = ap (λ (x : ℕ). a .gone ++ heldList k x) (sym e) ∙ a .whole in
     let counts : length (a .gone) + length held ≡ length (heldList j b) + length (booked (w .done)) =
-    sym (length-append (a .gone) held) ∙ ap length whole ∙ length-append (heldList j b) _ ∙ ap (λ (x : ℕ). length (heldList j b) + x) (length-map (booked (w .done)) recordOf) in
+    sym (length-append (a .gone) held) ∙ ap length whole ∙ length-append (heldList j b) _
+    ∙ ap (λ (x : ℕ). length (heldList j b) + x) (length-map (booked (w .done)) recordOf) in
     let sums : sumOf (a .gone) + sumOf held ≡ sumOf (heldList j b) + takings (booked (w .done)) =
-    sym (sum-append (a .gone) held) ∙ ap sumOf whole ∙ sum-append (heldList j b) _ ∙ ap (λ (x : ℕ). sumOf (heldList j b) + x) (sum-records (booked (w .done)) (a .small)) in
+    sym (sum-append (a .gone) held) ∙ ap sumOf whole ∙ sum-append (heldList j b) _
+    ∙ ap (λ (x : ℕ). sumOf (heldList j b) + x) (sum-records (booked (w .done)) (a .small)) in
     record {
       newest = subst (λ (x : ℕ). NewestIs k (Is x)) e (a .newest);
       counts = omega (arith, counts, a .counted, v .booked-is, v .released-is);

@@ -1,9 +1,9 @@
 use mathlib.Core.Path.{refl}
 use native.Mathlib.Omega.{arith}
-use Rattle.history.proofs.Scripts.{rule-not-whole, rule-too-long, rule-played, conserved}
+use Rattle.replay.proofs.Scripts.{rule-not-whole, rule-too-long, rule-played, conserved}
 use borrow.Author.Needs.{needs}
-use Rattle.history.proofs.replay.Statement.{statement}
-use Rattle.history.proofs.replay.Tie as tie
+use Rattle.replay.proofs.replay.Statement.{statement}
+use Rattle.replay.proofs.replay.Tie as tie
 
 returns : tie.Need-returns
 returns c = (rule-not-whole _ _ _ _ _ (search needs), λ b f. refl)
@@ -22,8 +22,12 @@ same-length-2 c = search needs
 
 returns-3 : tie.Need-returns-3
 returns-3 c =
-    let w = c .before .before .before .before .play-all .ensures in
-    (rule-played _ _ _ _ _ _ _ _ (omega arith) (omega arith) w, conserved _ _ _ _ _ _ _ _ (λ i. omega (arith, c .before .before .before .before .before .before .before .before .before .slice-known2 .given i)) w)
+    let p = c .before .before .before .before in
+    let w = p .play-all .ensures in
+    let k = p .before .before .before in (
+      rule-played _ _ _ _ _ _ _ _ (omega arith) (omega arith) w,
+      conserved _ _ _ _ _ _ _ _ (λ i. omega (arith, k .before .before .slice-known2 .given i)) w,
+    )
 
 pub replay-spec : {M : Type 1} → statement M
 replay-spec =

@@ -1,5 +1,5 @@
 -- A script of calls, records of 128 bytes, and what replaying it comes to. Assumes nothing.
-use Prim.Native.Nat.{ℕ, suc, min, _+_, _*_, _/_, _%_, _≤_}
+use Prim.Native.Nat.{ℕ, suc, min, _+_, _*_, _/_, _%_, _≤_, _<_}
 use mathlib.Core.Path.{_≡_}
 use mathlib.Core.Bool.{cond}
 use mathlib.Core.List.{List, [], _∷_}
@@ -13,10 +13,11 @@ use Rattle.journal.specs.Held.{heldList, sumOf}
 use Rattle.layout.specs.declared.Track.{Track}
 use Rattle.layout.specs.declared.Track.the-variants.{Two, One}
 use Rattle.swipe.specs.Swipe.{given}
-use Rattle.history.specs.History.{Call, book, swipe, release, reads, aside, AnswerTo, Does, Done, Effect, booked-one, released-to, nothing, effectOf, booked, takings, freedCount, freedSum}
-use Rattle.history.specs.declared.Totals.{Totals}
-use Rattle.history.specs.declared.Replayed.{Replayed}
-use Rattle.history.specs.declared.Replayed.the-variants.{Played, NotWhole, TooLong}
+use Rattle.history.specs.History.{Call, book, swipe, release, reads, aside, AnswerTo, Does, Done}
+use Rattle.history.specs.History.{Effect, booked-one, released-to, nothing, effectOf, booked, takings, freedCount, freedSum}
+use Rattle.replay.specs.declared.Totals.{Totals}
+use Rattle.replay.specs.declared.Replayed.{Replayed}
+use Rattle.replay.specs.declared.Replayed.the-variants.{Played, NotWhole, TooLong}
 
 -- ---- the script
 
@@ -151,13 +152,29 @@ Conserves b j TooLong k = k ≡ j
 
 -- ---- what the inner functions promise
 
--- one call was made and came to r, of which no number is large
+-- nothing was booked or released
+abbrev pub Nothing : ℕ → ℕ → Totals → Type 0
+Nothing refused skipped r = (r .booked ≡ 0) × (r .takings ≡ 0) × (r .released ≡ 0) × (r .remitted ≡ 0) × (r .refused ≡ refused) × (r .skipped ≡ skipped)
+
+-- no number of r is larger than so many records can make it
+abbrev pub Bounded : ℕ → Totals → Type 0
+Bounded i r =
+    (r .booked ≤ i) × (r .takings ≤ 4294967295 * i) × (r .released ≤ 2048 * i) × (r .remitted ≤ 8796093020160 * i) × (r .refused ≤ i) × (r .skipped ≤ i)
+
+-- one call was made and came to r
 pub record PlaysOne (c : Call) (clock : ℕ) (t j : List ℕ) (r : Totals) (u k : List ℕ) : Type 0 where
   pub answer : AnswerTo c
   pub does : Does j clock c answer k
   pub scratch : u ≡ scratchLeft c answer t
   pub totals : TotalsOf (record { clock = clock; call = c; answer = answer; after = k } ∷ []) r
-  pub small : (r .booked ≤ 1) × (r .takings ≤ 4294967295) × (r .released ≤ 2048) × (r .remitted ≤ 8796093020160) × (r .refused ≤ 1) × (r .skipped ≤ 1)
+  pub small : Bounded 1 r
+
+-- their sums are 64-bit numbers
+abbrev pub Fits : Totals → Totals → Type 0
+Fits t u =
+    (t .booked + u .booked < 18446744073709551616) × (t .takings + u .takings < 18446744073709551616)
+    × (t .released + u .released < 18446744073709551616) × (t .remitted + u .remitted < 18446744073709551616)
+    × (t .refused + u .refused < 18446744073709551616) × (t .skipped + u .skipped < 18446744073709551616)
 
 pub record Adds (t u r : Totals) : Type 0 where
   pub booked : r .booked ≡ t .booked + u .booked

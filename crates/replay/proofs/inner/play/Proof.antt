@@ -1,11 +1,21 @@
 use mathlib.Core.Path.{refl}
 use native.Mathlib.Omega.{arith}
 use Rattle.layout.specs.declared.Track.the-variants.{Two, One}
 use Rattle.history.specs.History.{aside}
-use Rattle.history.proofs.Scripts.{as-call, is-book, is-release, is-swipe, is-none, nothing-came}
+use Rattle.replay.proofs.Scripts.{as-call, is-book, is-release, is-swipe, is-none, nothing-came}
 use borrow.Author.Needs.{needs}
-use Rattle.history.proofs.play.Statement.{statement}
-use Rattle.history.proofs.play.Tie as tie
+use Rattle.replay.proofs.inner.play.Statement.{statement}
+use Rattle.replay.proofs.inner.play.Tie as tie
+
+abbrev start : tie.After-shared-slice-known4 → tie.Start
+start c = c .before .before .before .before .before .before
+
+-- where the kind was read that passed the tests before a place
+abbrev kind2 : tie.Else2 → tie.After-shared-slice-known4
+kind2 c = c .before .before
+
+abbrev kind3 : tie.Else3 → tie.After-shared-slice-known4
+kind3 c = kind2 (c .before)
 
 shared-slice-read-kind : tie.Need-shared-slice-read-kind
 shared-slice-read-kind c = search needs
@@ -18,8 +28,9 @@ same-length c = search needs
 
 returns : tie.Need-returns
 returns c =
-    let s0 = c .before .before .before .before .before .before .before .before .before .before .before in
-    as-call _ _ _ _ _ _ (is-book (s0 .args .script .now) _ _ _ (s0 .args .at) (search needs)) (c .before .before .play-book .ensures _)
+    let b = c .before .before in
+    let a = start (b .before .before .before) .args in
+    as-call _ _ _ _ _ _ (is-book (a .script .now) _ _ _ (a .at) (search needs)) (b .play-book .ensures _)
 
 play-release-requires : tie.Need-play-release-requires
 play-release-requires c κs = search needs
@@ -29,8 +40,9 @@ same-length-2 c = search needs
 
 returns-2 : tie.Need-returns-2
 returns-2 c =
-    let s0 = c .before .before .before .before .before .before .before .before .before .before .before .before in
-    as-call _ _ _ _ _ _ (is-release (s0 .args .script .now) _ _ _ (s0 .args .at) (search needs)) (c .before .before .play-release .ensures _)
+    let b = c .before .before in
+    let a = start (b .before .before .before .before) .args in
+    as-call _ _ _ _ _ _ (is-release (a .script .now) _ _ _ (a .at) (search needs)) (b .play-release .ensures _)
 
 play-swipe-requires : tie.Need-play-swipe-requires
 play-swipe-requires c κs = search needs
@@ -43,8 +55,9 @@ same-length-4 c = search needs
 
 returns-3 : tie.Need-returns-3
 returns-3 c =
-    let s0 = c .before .before .before .before .before .before .before .before .before .before .before .before .before .before .before .before in
-    as-call _ _ _ _ _ _ (is-swipe (s0 .args .script .now) _ _ _ (s0 .args .at) Two (search needs)) (c .before .before .before .before .play-swipe .ensures)
+    let b = c .before .before .before .before in
+    let a = start (kind2 (b .before .before .before .before)) .args in
+    as-call _ _ _ _ _ _ (is-swipe (a .script .now) _ _ _ (a .at) Two (search needs)) (b .play-swipe .ensures)
 
 play-swipe-requires-2 : tie.Need-play-swipe-requires-2
 play-swipe-requires-2 c κs = search needs
@@ -57,16 +70,17 @@ same-length-6 c = search needs
 
 returns-4 : tie.Need-returns-4
 returns-4 c =
-    let s0 = c .before .before .before .before .before .before .before .before .before .before .before .before .before .before .before .before .before in
-    as-call _ _ _ _ _ _ (is-swipe (s0 .args .script .now) _ _ _ (s0 .args .at) One (search needs)) (c .before .before .before .before .play-swipe2 .ensures)
+    let b = c .before .before .before .before in
+    let a = start (kind3 (b .before .before .before .before)) .args in
+    as-call _ _ _ _ _ _ (is-swipe (a .script .now) _ _ _ (a .at) One (search needs)) (b .play-swipe2 .ensures)
 
 counted-requires : tie.Need-counted-requires
 counted-requires c κs = search needs
 
 returns-5 : tie.Need-returns-5
 returns-5 c =
-    let s0 = c .before .before .before .before .before .before .before .before .before .before .before in
-    as-call _ _ _ _ _ _ (is-none (s0 .args .script .now) _ _ _ (s0 .args .at) (search needs) (search needs) (search needs) (search needs))
+    let a = start (kind3 (c .before .before)) .args in
+    as-call _ _ _ _ _ _ (is-none (a .script .now) _ _ _ (a .at) (search needs) (search needs) (search needs) (search needs))
     (nothing-came aside _ tt _ _ _ _ _ refl (omega arith) refl refl (c .counted .ensures))
 
 pub play-spec : {M : Type 1} → statement M

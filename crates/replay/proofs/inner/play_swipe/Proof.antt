@@ -1,8 +1,14 @@
 use Rattle.swipe.specs.Swipe.{given}
-use Rattle.history.proofs.Scripts.{same-swipe, stream-is, swipe-refused-came, swiped-came}
+use Rattle.replay.proofs.Scripts.{same-swipe, stream-is, swipe-refused-came, swiped-came}
 use borrow.Author.Needs.{needs}
-use Rattle.history.proofs.play_swipe.Statement.{statement}
-use Rattle.history.proofs.play_swipe.Tie as tie
+use Rattle.replay.proofs.inner.play_swipe.Statement.{statement}
+use Rattle.replay.proofs.inner.play_swipe.Tie as tie
+
+abbrev start : tie.After-u32-at → tie.Start
+start c = c .before .before .before .before .before .before
+
+abbrev answered : tie.After-slice-known4 → tie.After-swipe
+answered c = c .before .before .before .before
 
 add-u32-at : tie.Need-add-u32-at
 add-u32-at c = search needs
@@ -66,11 +72,12 @@ same-length-2 c = search needs
 
 returns : tie.Need-returns
 returns c =
-    let b = c .before .before .before .before .before .before .before in
-    let s0 = b .before .before .before .before .before .before .before .before .before .before .before .before in
+    let b = answered (c .before .before .before) in
+    let f = b .before .before .before .before in
+    let a = start (f .before .before) .args in
     same-swipe _ _ _ _ _
-    (λ i. given (s0 .args .track) (stream-is (s0 .args .script .now) (s0 .args .at) i) (b .before .before .before .before .u32-at3 .ensures i) (s0 .args .site .now) (s0 .args .acquirer .now))
-    (b .before .before .before .before .before .before .u32-at .ensures) (b .before .before .before .before .before .u32-at2 .ensures)
+    (λ i. given (a .track) (stream-is (a .script .now) (a .at) i) (f .u32-at3 .ensures i) (a .site .now) (a .acquirer .now))
+    (f .before .before .u32-at .ensures) (f .before .u32-at2 .ensures)
     (swipe-refused-came _ _ _ (search needs) _ _ _ _ _ (b .swipe .ensures) _ _ (c .before .enum-told .given .1) (c .counted .ensures))
 
 same-length-3 : tie.Need-same-length-3
@@ -81,11 +88,12 @@ same-length-4 c = search needs
 
 returns-2 : tie.Need-returns-2
 returns-2 c =
-    let b = c .before .before .before .before .before .before .before in
-    let s0 = b .before .before .before .before .before .before .before .before .before .before .before .before in
+    let b = answered (c .before .before .before) in
+    let f = b .before .before .before .before in
+    let a = start (f .before .before) .args in
     same-swipe _ _ _ _ _
-    (λ i. given (s0 .args .track) (stream-is (s0 .args .script .now) (s0 .args .at) i) (b .before .before .before .before .u32-at3 .ensures i) (s0 .args .site .now) (s0 .args .acquirer .now))
-    (b .before .before .before .before .before .before .u32-at .ensures) (b .before .before .before .before .before .u32-at2 .ensures)
+    (λ i. given (a .track) (stream-is (a .script .now) (a .at) i) (f .u32-at3 .ensures i) (a .site .now) (a .acquirer .now))
+    (f .before .before .u32-at .ensures) (f .before .u32-at2 .ensures)
     (swiped-came _ _ _ (search needs) _ _ _ _ _ (b .swipe .ensures) _ _ (c .before .enum-told2 .given .1) (c .counted2 .ensures))
 
 pub play-swipe-spec : {M : Type 1} → statement M

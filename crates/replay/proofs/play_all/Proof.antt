@@ -1,15 +1,29 @@
-use Prim.Native.Nat.{_-_}
+use Prim.Native.Nat.{_-_, _/_, _≤_}
 use native.Mathlib.Omega.{arith}
+use lib.ListN.{length}
 use borrow.Author.Needs.{needs}
-use Rattle.history.proofs.Scripts.{Going, going-start, going-turn, going-done}
-use Rattle.history.proofs.play_all.Statement.{statement}
-use Rattle.history.proofs.play_all.Tie as tie
+use Rattle.replay.proofs.Scripts.{bounded-fits, Going, going-start, going-turn, going-done}
+use Rattle.replay.proofs.play_all.Statement.{statement}
+use Rattle.replay.proofs.play_all.Tie as tie
 
 abbrev Inv-loop : tie.InvT-loop
 Inv-loop script site acquirer scratch₀ journal₀ n t₀ i₀ scratch journal t i = Going script site acquirer scratch₀ journal₀ n i scratch journal t
 
 abbrev μ-loop : tie.MeasureT-loop
 μ-loop script site acquirer scratch₀ journal₀ n t₀ i₀ scratch journal t i = n - i
+
+abbrev start : tie.At-loop Inv-loop μ-loop → tie.Start Inv-loop μ-loop
+start c = c .before .before .before .before .before .before .before
+
+-- where a turn that played its record began
+abbrev turn : tie.After-play Inv-loop μ-loop → tie.At-loop Inv-loop μ-loop
+turn c = c .before .before .before .before
+
+abbrev played : tie.After-add Inv-loop μ-loop → tie.After-play Inv-loop μ-loop
+played c = c .before .before .before .before .before
+
+few : (c : tie.At-loop Inv-loop μ-loop) → length (start c .args .script .now) / 128 ≤ 1048576
+few c = start c .pre .1
 
 counted-requires : tie.Need-counted-requires Inv-loop μ-loop
 counted-requires c κs = search needs
@@ -18,26 +32,28 @@ loop-holds : tie.Need-loop-holds Inv-loop μ-loop
 loop-holds c = going-start _ _ _ _ _ _ _ (c .counted .ensures)
 
 mul-play : tie.Need-mul-play Inv-loop μ-loop
-mul-play c = omega (arith, c .before .before .before .before .before .before .before .before .pre .1)
+mul-play c = omega (arith, few (c .before))
 
 play-requires : tie.Need-play-requires Inv-loop μ-loop
 play-requires c κs = omega arith
 
 add-requires : tie.Need-add-requires Inv-loop μ-loop
 add-requires c κs =
-    let x = c .before .before .before .before .before .before .before .before .loop .inv .small in
-    let y = c .before .before .before .before .play .ensures .small in
-    let m = c .before .before .before .before .before .before .before .before .before .before .before .before .before .before .before .pre .1 in
-    (omega (arith, x .0, y .0), omega (arith, x .1, y .1), omega (arith, x .2, y .2), omega (arith, x .3, y .3), omega (arith, x .4, y .4), omega (arith, x .5, y .5))
+    let p = c .before .before .before .before in
+    let l = turn p in
+    let m = few l in
+    bounded-fits _ _ _ (omega arith) (l .loop .inv .small) (p .play .ensures .small)
 
 add-i : tie.Need-add-i Inv-loop μ-loop
-add-i c = omega (arith, c .before .before .before .before .before .before .before .before .before .before .before .before .before .before .before .before .pre .1)
+add-i c = omega (arith, few (turn (played c)))
 
 loop-less : tie.Need-loop-less Inv-loop μ-loop
 loop-less c = omega arith
 
 loop-again : tie.Need-loop-again Inv-loop μ-loop
-loop-again c = going-turn _ _ _ _ _ _ _ _ _ _ _ _ _ _ (c .before .before .before .before .before .before .before .before .before .loop .inv) (search needs) (c .before .before .before .before .before .play .ensures) (c .add .ensures) (search needs) (search needs)
+loop-again c =
+    let p = played c in
+    going-turn _ _ _ _ _ _ _ _ _ _ _ _ _ _ (turn p .loop .inv) (search needs) (p .play .ensures) (c .add .ensures) (search needs) (search needs)
 
 same-length : tie.Need-same-length Inv-loop μ-loop
 same-length c = c .before .loop .inv .scratch-long
