@@ -1,0 +1,5 @@
+pub mod One
+pub mod Turned
+pub mod Going
+pub mod Linked
+pub mod Laws
