@@ -3,10 +3,11 @@
 # make built   the tests of what is built: the library against its reference, the program card, damaged journals, README's commands
 # make run     the battery swap, told by the program card
 # make soak    the library held against the reference for as long as you like
+# make radio   a box and its host over a radio that loses, repeats and reorders: the books compared at the end
 # make bench   what each call costs, beside plain C: docs/BENCHMARK.md
 # make times   what each crate's check cost in the last make test: docs/TIMES.md
 
-.PHONY: test prove built run soak bench times
+.PHONY: test prove built run soak radio bench times
 
 test:
 	@tests/gate
@@ -24,6 +25,9 @@ run:
 
 soak:
 	@tests/run --soak
+
+radio:
+	@tests/run --radio
 
 bench:
 	@bench/run

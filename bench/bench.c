@@ -285,6 +285,27 @@ static void walk_rows(unsigned slots)
     measure("walk.once", slots, slots + 1, once);
 }
 
+/* A record of a serial and a state as a message to a ledger that has taken 1,000
+ * payments of 250 each. */
+static void ledger_row(const char *name, uint32_t serial, uint8_t state, const char *what)
+{
+    struct record r = {serial, 1000 + serial, 250, 7, 16, state};
+    start(LEDGER_TAKE);
+    made.r.taken = 1000;
+    made.r.total = 250000;
+    made.r.n[0] = SLOT;
+    put_record(made.bytes[0], &r, (const uint8_t *)"4111111111");
+    printf("input %s 0 1,000 taken; serial %u, %s\n", name, (unsigned)serial, what);
+    row(name, 0);
+}
+
+static void ledger_rows(void)
+{
+    ledger_row("ledger_take.wanted", 1001, 1, "held");
+    ledger_row("ledger_take.repeat", 1000, 1, "held");
+    ledger_row("ledger_take.refused", 1001, 2, "released");
+}
+
 static void swipe_row(const char *name, const struct track *t, bool reversed, unsigned slots)
 {
     start(t == &track1 ? SWIPE1 : SWIPE);
@@ -321,6 +342,7 @@ int main(void)
     track_row("track2_read.reversed", &track2, true);
     track_row("track1_read.forward", &track1, false);
     track_row("track1_read.reversed", &track1, true);
+    ledger_rows();
     for (int i = 0; i < 5; i++)
         range_row(records[i]);
     for (int i = 0; i < 5; i++)

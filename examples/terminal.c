@@ -1,17 +1,21 @@
 /*
- * A terminal's round with the C interface: take one swipe, keep it, show what is
- * held, and release what the host has. The journal's file is kept as store.h says.
+ * A terminal's round with the C interface: take one swipe, keep it, send what is held
+ * to the host, and release by the host's answer. The journal's file is kept as store.h
+ * says, the host's ledger, JOURNAL.ledger, as host.h says.
  *
  *   cc -Iinclude examples/terminal.c target/staticlib/libgoltwarden.a -o terminal
  *   ./terminal JOURNAL
  *
- * JOURNAL is made where there is no such file.
+ * Both files are made where there are none, the journal first, and belong together from
+ * then on. Where one is missing, or their serials don't fit, the program stops with
+ * status 2 before it makes or changes either. It goes by the serials alone: another
+ * box's file isn't found out where they fit.
  */
 #define _DEFAULT_SOURCE
 #include <inttypes.h>
 #include <stdio.h>
 #include <stdlib.h>
-#include "store.h"
+#include "host.h"
 
 enum { SLOTS = 64 };
 
@@ -60,8 +64,9 @@ static uint32_t release(struct store *s, uint32_t serial, uint32_t *count, uint6
     return refusal;
 }
 
-/* Print each held record: what would go to the host. */
-static uint32_t print_held(const struct store *s)
+/* Send each held record to the host: *answer receives what it answered last, 0 for
+ * nothing yet. */
+static uint32_t send_held(const struct store *s, struct host *h, uint32_t *answer)
 {
     uint32_t serial, at, next;
     uint32_t refusal = gw_walk_start(s->journal, store_bytes(s), &serial);
@@ -71,46 +76,107 @@ static uint32_t print_held(const struct store *s)
             break;
         printf("held: serial %" PRIu32 ", first six digits %.6s, last four %.4s\n", serial,
                (const char *)s->journal + at + 16, (const char *)s->journal + at + 22);
+        host_hears(h, s->journal + at, GW_SLOT_BYTES, answer);
         serial = next;
     }
     return refusal;
 }
 
 /* One swipe, then the host's answer. */
-static uint32_t round_trip(struct store *s)
+static uint32_t round_trip(struct store *s, struct host *h)
 {
-    uint32_t serial, count;
+    uint32_t serial, count, answer = 0;
     uint64_t sum;
     uint32_t refusal = swipe(s, 250, 0, &serial);
     if (refusal)
         return refusal;
     printf("booked: serial %" PRIu32 "\n", serial);
-    refusal = print_held(s);
+    refusal = send_held(s, h, &answer);
     if (refusal)
         return refusal;
 
-    /* The host has answered that it took this serial and all before it. */
-    refusal = release(s, serial, &count, &sum);
+    /* By the host's answer and by nothing else; one of 0 is refused with 20. */
+    refusal = release(s, answer, &count, &sum);
     if (!refusal)
-        printf("released: %" PRIu32 ", in all %" PRIu64 "\n", count, sum);
+        printf("taken by the host: up to serial %" PRIu32 "; released: %" PRIu32 ", in all %" PRIu64
+               "\n", answer, count, sum);
     return refusal;
+}
+
+static void stop(const char *path)
+{
+    perror(path);
+    exit(2);
+}
+
+static void stop_at_journal(const char *path, uint32_t newest, uint32_t taken)
+{
+    fprintf(stderr, "%s is new, or isn't the journal of %s.ledger: booked up to serial %" PRIu32
+            ", taken up to serial %" PRIu32 ". The host would answer serials of the old journal, "
+            "and the box would release payments that the host never took. Put the old journal "
+            "back; if it is gone, move the ledger away, so that both start anew.\n",
+            path, path, newest, taken);
+    exit(2);
+}
+
+static void stop_at_ledger(const char *path, uint32_t newest, uint32_t taken)
+{
+    fprintf(stderr, "%s.ledger is new, or isn't the ledger of %s: taken up to serial %" PRIu32
+            ", booked up to serial %" PRIu32 ". The host would want a serial that it took before "
+            "and that may be held no more; then nothing would be released. Put the old ledger "
+            "back; if it is gone, hand over what is held and move the journal away, so that both "
+            "start anew.\n", path, path, taken, newest);
+    exit(2);
+}
+
+/* Both files opened, where they fit: the host has taken all that the box has released,
+ * and nothing that the box hasn't booked; and a journal with records has had a ledger from
+ * the start. A cut of power while they are made leaves an all-zero journal without a
+ * ledger; that, and a ledger that has taken nothing without a journal, is as good as new. */
+static uint32_t open_both(struct store *s, struct host *h, const char *path, const char *ledger)
+{
+    uint32_t count, oldest = 0, newest = 0, refusal = 0;
+    uint64_t sum;
+    bool there = access(path, F_OK) == 0;
+    if (there && !store_open(s, path, SLOTS))
+        stop(path);
+    if (there)
+        refusal = gw_journal_tell(s->journal, store_bytes(s), &count, &sum, &oldest, &newest);
+    if (refusal)
+        return refusal;
+    ssize_t n = host_read(h, ledger);
+    if (n < 0)
+        stop(ledger);
+    uint32_t released = oldest != 0 ? oldest - 1 : newest;
+    if (h->taken > newest)
+        stop_at_journal(path, newest, h->taken);
+    if (h->taken < released || (n == 0 && newest > 0))
+        stop_at_ledger(path, newest, h->taken);
+    if (!there && !store_open(s, path, SLOTS))
+        stop(path);
+    if (!host_open(h, ledger))
+        stop(ledger);
+    return 0;
 }
 
 int main(int argc, char **argv)
 {
     static struct store store;
+    struct host host;
+    char ledger[PATH_MAX];
     if (argc != 2) {
         fprintf(stderr, "usage: terminal JOURNAL (a file of %d bytes, or none yet)\n",
                 SLOTS * GW_SLOT_BYTES);
         return 2;
     }
-    if (!store_open(&store, argv[1], SLOTS)) {
-        perror(argv[1]);
-        return 2;
+    if (snprintf(ledger, sizeof ledger, "%s.ledger", argv[1]) >= (int)sizeof ledger) {
+        errno = ENAMETOOLONG;
+        stop(argv[1]);
     }
-    uint32_t refusal = round_trip(&store);
+    uint32_t refusal = open_both(&store, &host, argv[1], ledger);
+    if (!refusal)
+        refusal = round_trip(&store, &host);
     if (refusal)
         printf("refused with %" PRIu32 "\n", refusal);
-    close(store.file);
     return refusal ? 1 : 0;
 }

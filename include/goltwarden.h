@@ -72,7 +72,7 @@ extern "C" {
 #endif
 
 /* The version of this interface, as gw_version() answers it. */
-#define GW_VERSION 3
+#define GW_VERSION 4
 
 /* The numbered reasons. */
 enum gw_reason {
@@ -268,8 +268,8 @@ uint32_t gw_creditor_make(const uint8_t *body, size_t body_n, uint32_t *pair);
  * Well formed: the length is a multiple of 32 in that range, and either every
  * byte is zero, or there is a newest serial b of at least 1 such that, N being
  * the slots and m the smaller of b and N, each serial s from b - m + 1 to b
- * stands in slot (s - 1) mod N with state 1 or 2, amount above 0, length 13 to
- * 19, digits as digits, zeros as zeros; all other slots are all zero; and no
+ * stands in slot (s - 1) mod N with state 1 or 2, amount above 0, PAN length 13
+ * to 19, digits as digits, zeros as zeros; all other slots are all zero; and no
  * released record has a higher serial than a held one. Clock and label may be
  * anything. No call compares clocks. Each call below but gw_walk_step and
  * gw_journal_survey checks the whole journal first, and refuses with 16 one that
@@ -374,6 +374,38 @@ uint32_t gw_swipe1(const uint8_t *stream, size_t stream_n, uint64_t bits,
                    uint8_t *scratch, size_t scratch_n,
                    uint8_t *journal, size_t journal_n,
                    uint32_t *serial);
+
+/* ---- The host's ledger -------------------------------------------------- */
+
+/* The host's side. For each box the host keeps a ledger of two numbers: `taken`,
+ * the last serial taken, so that the one wanted is the next, and `total`. Both are 0
+ * while the box's journal is all zero bytes. So a new journal, of a box that was
+ * swapped or whose memory was cleared, needs a fresh ledger: by the old one the host
+ * answers serials that it took from the old journal, and the box releases payments
+ * that the host never took. A fresh ledger for a box that has released already wants
+ * a serial that is held no more.
+ *
+ * The box sends the 32 bytes of any held record, as often as it likes. The host
+ * takes the records one serial after another, and after each message that isn't
+ * refused it answers *taken. The box calls gw_journal_release with such an answer,
+ * and with nothing else. Messages either way may be lost, repeated or come out of
+ * order, but aren't altered: then the host's total is the sum of the payments booked
+ * up to *taken, and no released payment is missing from it. An answer of 0, while
+ * nothing is taken, meets 20 at the box and does no harm; one that comes again, or
+ * after a higher one, releases nothing.
+ *
+ * Where the host's power may fail, the two numbers are kept together, in one write,
+ * and answered once they are there. */
+
+/* Take a message, which is any bytes. It is a held record when it has 32 bytes,
+ * serial at least 1, state 1, amount above 0, PAN length 13 to 19, digits as digits,
+ * zeros as zeros. One whose serial is *taken + 1 moves *taken on by one and adds its
+ * amount to *total; any other held record changes nothing. After serial
+ * 4,294,967,295 none is wanted.
+ * Order: 6 unless the message is a held record; 6 if no messages can have led to
+ * the two numbers: *total under *taken, or over *taken times 4,294,967,295. */
+uint32_t gw_ledger_take(const uint8_t *message, size_t message_n,
+                        uint32_t *taken, uint64_t *total);
 
 #ifdef __cplusplus
 }

@@ -752,6 +752,61 @@ static void make_journal_call(struct made *m)
     make_rest_of_journal_call(m, newest);
 }
 
+/* ---- The host's ledger -------------------------------------------------- */
+
+/* The last serial taken: none, few, any, or the last one and those before it. */
+static uint32_t draw_taken(void)
+{
+    switch (below(4)) {
+    case 0: return below(3);
+    case 1: return last_serial - below(3);
+    case 2: return below(5000);
+    default: return (uint32_t)draw();
+    }
+}
+
+/* A total that amounts can add up to, mostly; else around the least or the most of
+ * them, at either end of 64 bits, or any. */
+static uint64_t draw_total(uint64_t taken)
+{
+    uint64_t most = taken * UINT32_MAX;
+    switch (below(10)) {
+    case 0: return taken + below(3) - 1;
+    case 1: return most + below(3) - 1;
+    case 2: return one_in(2) ? below(2) : UINT64_MAX - below(2);
+    case 3: return draw() >> below(64);
+    default: return taken + draw() % (most - taken + 1);
+    }
+}
+
+/* The wanted serial, mostly; else the one taken last, one before it or one behind the
+ * wanted one, near or far. */
+static uint32_t draw_heard(uint32_t taken)
+{
+    switch (below(8)) {
+    case 0: return taken;
+    case 1: return taken - below(4);
+    case 2: return taken + 2 + below(3);
+    case 3: return one_in(2) ? (uint32_t)draw() : 1 + below(3);
+    default: return taken + 1;
+    }
+}
+
+/* Two records one behind the other, of which the message is the first, mostly; else it
+ * is cut off or goes on. */
+static void make_message(struct made *m)
+{
+    m->r.taken = draw_taken();
+    m->r.total = draw_total(m->r.taken);
+    for (int i = 0; i < 2; i++)
+        make_record(m->bytes[0] + i * SLOT, draw_heard(m->r.taken), one_in(8) ? 2 : 1);
+    m->r.n[0] = one_in(6) ? 30 + below(5) : one_in(10) ? below(66) : SLOT;
+    if (one_in(5))
+        spoil_record(m->bytes[0]);
+    if (one_in(40))
+        memset(m->bytes[0], 0, SLOT);
+}
+
 /* ---- The swipes --------------------------------------------------------- */
 
 /* The length of the run of digits that starts a text. */
@@ -803,7 +858,7 @@ void make_request(struct made *m, enum call call)
         [TRACK1_READ] = make_track, [LAYOUT1_READ] = make_layout,
         [IBAN_TEST] = make_iban_test, [IBAN_MAKE] = make_iban_body,
         [CREDITOR_TEST] = make_creditor_test, [CREDITOR_MAKE] = make_creditor_body,
-        [SWIPE] = make_swipe, [SWIPE1] = make_swipe,
+        [LEDGER_TAKE] = make_message, [SWIPE] = make_swipe, [SWIPE1] = make_swipe,
     };
     memset(&m->r, 0, sizeof m->r);
     m->r.call = call;
@@ -827,9 +882,7 @@ static uint32_t newest_of(const uint8_t *journal, size_t n)
 {
     uint32_t newest = 0;
     for (size_t at = 0; at < n; at += SLOT) {
-        uint32_t s = 0;
-        for (int i = 3; i >= 0; i--)
-            s = s << 8 | journal[at + (size_t)i];
+        uint32_t s = number_at(journal + at);
         newest = s > newest ? s : newest;
     }
     return newest;

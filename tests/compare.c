@@ -21,8 +21,8 @@
 enum { STEPS = 48, HISTORY = CALLS, KINDS = CALLS + 1, PATIENCE = 60, ENOUGH = 1000000 };
 
 /* How many buffers each call is lent. */
-static const int call_buffers[CALLS] = {0, 1, 1, 2, 3, 2, 1, 2, 1, 1, 2, 1, 1, 2, 1, 1, 1, 1,
-                                        1, 1, 2, 5, 5};
+static const int call_buffers[CALLS] = {0, 1, 1, 2, 3, 2, 1, 2, 1, 1, 2, 1, 1, 1, 2, 1, 1, 1,
+                                        1, 1, 1, 2, 5, 5};
 
 static uint64_t seed = 1;
 static uint64_t case_number;
@@ -46,7 +46,8 @@ static void print_request(void)
     const struct request *r = &made.r;
     printf("gw_%s\n", call_names[r->call]);
     printf("  bits %" PRIu64 ", serial %" PRIu32 ", amount %" PRIu32 ", clock %" PRIu32
-           ", label %u\n", r->bits, r->serial, r->amount, r->clock, r->label);
+           ", label %u, taken %" PRIu32 ", total %" PRIu64 "\n", r->bits, r->serial, r->amount,
+           r->clock, r->label, r->taken, r->total);
     for (int b = 0; b < call_buffers[r->call]; b++)
         print_bytes("lent", b, made.bytes[b], r->n[b]);
 }

@@ -6,6 +6,14 @@
 #include "door.h"
 #include "goltwarden.h"
 
+/* The ledger's two numbers go in and come back by the same pointers. */
+static uint32_t ledger_call(const struct request *r, struct lent *l)
+{
+    l->word[0] = r->taken;
+    l->sum = r->total;
+    return gw_ledger_take(l->buffer[0], r->n[0], &l->word[0], &l->sum);
+}
+
 static uint32_t text_call(const struct request *r, struct lent *l)
 {
     uint8_t *const *b = l->buffer;
@@ -24,6 +32,7 @@ static uint32_t text_call(const struct request *r, struct lent *l)
     case IBAN_MAKE: return gw_iban_make(b[0], n[0], b[1], n[1], &w[0]);
     case CREDITOR_TEST: return gw_creditor_test(b[0], n[0]);
     case CREDITOR_MAKE: return gw_creditor_make(b[0], n[0], &w[0]);
+    case LEDGER_TAKE: return ledger_call(r, l);
     default: return gw_version();
     }
 }

@@ -10,7 +10,7 @@
 enum call {
     VERSION, LUHN_TEST, LUHN_MAKE, PAN_MASK, RANGE_FIND, TRACK2_READ, LAYOUT_READ,
     TRACK1_READ, LAYOUT1_READ,
-    IBAN_TEST, IBAN_MAKE, CREDITOR_TEST, CREDITOR_MAKE,
+    IBAN_TEST, IBAN_MAKE, CREDITOR_TEST, CREDITOR_MAKE, LEDGER_TAKE,
     JOURNAL_BOOK, JOURNAL_RELEASE, JOURNAL_SHOW, JOURNAL_TELL, JOURNAL_WALK,
     WALK_START, WALK_STEP, JOURNAL_SURVEY, SWIPE, SWIPE1, CALLS
 };
@@ -25,6 +25,8 @@ struct request {
     uint64_t bits;
     uint32_t serial, amount, clock;
     uint16_t label;
+    uint32_t taken; /* with the total, the host's ledger */
+    uint64_t total;
 };
 
 /* What is lent to one side, and what comes back. */

@@ -7,6 +7,14 @@ void put_number(uint8_t *s, unsigned bytes, uint64_t v)
         s[i] = (uint8_t)(v >> 8 * i);
 }
 
+uint32_t number_at(const uint8_t *s)
+{
+    uint32_t v = 0;
+    for (int i = 3; i >= 0; i--)
+        v = v << 8 | s[i];
+    return v;
+}
+
 const struct track track1 = {7, ' ', '%', '?', 76, '^'};
 const struct track track2 = {5, '0', ';', '?', 37, '='};
 

@@ -9,8 +9,9 @@
 
 enum { SLOT = 32 };
 
-/* A number, lowest byte first. */
+/* A number, lowest byte first, and one of four bytes read again. */
 void put_number(uint8_t *s, unsigned bytes, uint64_t v);
+uint32_t number_at(const uint8_t *s);
 
 /* How a track is written. */
 struct track {

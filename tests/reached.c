@@ -9,8 +9,8 @@ enum { REASONS = 21, OTHER = REASONS, NUMBERS, BITS = 4100 };
 const char *const call_names[CALLS] = {
     "version", "luhn_test", "luhn_make", "pan_mask", "range_find", "track2_read", "layout_read",
     "track1_read", "layout1_read", "iban_test", "iban_make", "creditor_test", "creditor_make",
-    "journal_book", "journal_release", "journal_show", "journal_tell", "journal_walk",
-    "walk_start", "walk_step", "journal_survey", "swipe", "swipe1",
+    "ledger_take", "journal_book", "journal_release", "journal_show", "journal_tell",
+    "journal_walk", "walk_start", "walk_step", "journal_survey", "swipe", "swipe1",
 };
 
 /* The reasons that the paper gives for each call, a bit for each number. */
@@ -24,6 +24,7 @@ static const uint32_t call_reasons[CALLS] = {
     [TRACK1_READ] = R(1) | READING, [LAYOUT1_READ] = R(6),
     [IBAN_TEST] = R(2) | R(3) | R(4) | R(5) | R(6), [IBAN_MAKE] = R(2) | R(3) | R(5) | R(6),
     [CREDITOR_TEST] = R(2) | R(3) | R(4) | R(6), [CREDITOR_MAKE] = R(2) | R(3),
+    [LEDGER_TAKE] = R(6),
     [JOURNAL_BOOK] = R(2) | R(3) | R(4) | R(16) | R(17) | R(18) | R(19),
     [JOURNAL_RELEASE] = R(16) | R(20), [JOURNAL_SHOW] = R(16) | R(20), [JOURNAL_TELL] = R(16),
     [JOURNAL_WALK] = R(16), [WALK_START] = R(16), [WALK_STEP] = R(20),
@@ -49,7 +50,7 @@ static const struct lengths call_lengths[] = {
     {TRACK1_READ, 0, 0, 80, 1}, {TRACK1_READ, 0, 511, 513, 1}, {TRACK1_READ, 1, 0, 83, 1},
     {LAYOUT1_READ, 0, 0, 78, 1},
     {IBAN_TEST, 0, 0, 37, 1}, {IBAN_MAKE, 0, 0, 4, 1}, {IBAN_MAKE, 1, 0, 33, 1},
-    {CREDITOR_TEST, 0, 0, 28, 1}, {CREDITOR_MAKE, 0, 0, 24, 1},
+    {CREDITOR_TEST, 0, 0, 28, 1}, {CREDITOR_MAKE, 0, 0, 24, 1}, {LEDGER_TAKE, 0, 0, 65, 1},
     {JOURNAL_BOOK, 0, 0, 65, 1}, {JOURNAL_BOOK, 0, 65504, 65568, 32},
     {JOURNAL_BOOK, 0, 65535, 65537, 1}, {JOURNAL_BOOK, 1, 0, 22, 1},
     {JOURNAL_RELEASE, 0, 0, 65, 1}, {JOURNAL_RELEASE, 0, 65504, 65568, 32},

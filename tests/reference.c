@@ -1,6 +1,6 @@
 /*
- * A second implementation of document 01, and of request E1 of document 02, in
- * plain C, written from the paper alone. The tests hold the library against it,
+ * A second implementation of document 01, and of requests E1 and E6 of document 02,
+ * in plain C, written from the paper alone. The tests hold the library against it,
  * call by call and byte by byte; the benchmark runs it as the plain C beside the
  * library.
  *
@@ -23,7 +23,7 @@
 
 uint32_t gw_version(void)
 {
-    return 3;
+    return 4;
 }
 
 /* ---- Bytes and numbers -------------------------------------------------- */
@@ -1016,4 +1016,50 @@ uint32_t gw_swipe1(const uint8_t *stream, size_t stream_n, uint64_t bits,
     struct given g = {{stream, stream_n, bits}, {site, site_n, acquirer, acquirer_n},
                       amount, clock};
     return swipe(&track1, &g, scratch, scratch_n, journal, journal_n, serial);
+}
+
+/* ---- The host's ledger -------------------------------------------------- */
+
+static bool is_held_record(const uint8_t *message, size_t n)
+{
+    return SLIP(65, n == SLOT, n == SLOT || n == SLOT + 1)
+        && SLIP(66, u32_at(message) > 0, true)
+        && is_record(message)
+        && SLIP(67, message[STATE] == HELD, true);
+}
+
+/* Messages can have led to these numbers: each amount taken is 1 to 4,294,967,295. */
+static bool is_sound(uint32_t taken, uint64_t total)
+{
+    uint64_t least = SLIP(68, taken, 0), most = (uint64_t)taken * UINT32_MAX;
+    return SLIP(69, least <= total, least < total)
+        && SLIP(70, total <= SLIP(71, most, UINT64_MAX), total < most);
+}
+
+/* The next serial; after the last one nothing. */
+static bool is_wanted(uint32_t serial, uint32_t taken)
+{
+    if ((WRONG == 72 && serial == taken) || (WRONG == 73 && serial > taken))
+        return true; /* a repeat, a gap */
+    if (taken == LAST_SERIAL)
+        return SLIP(74, false, serial == 1);
+    return serial == taken + 1;
+}
+
+uint32_t gw_ledger_take(const uint8_t *message, size_t message_n,
+                        uint32_t *taken, uint64_t *total)
+{
+    if (!is_held_record(message, message_n) || !is_sound(*taken, *total)) {
+        *taken -= SLIP(75, 0, 1); /* 75, 76: a refusal changes a number */
+        *total -= SLIP(76, 0, 1);
+        return 6;
+    }
+    uint32_t serial = u32_at(message);
+    if (is_wanted(serial, *taken)) {
+        uint64_t more = *total + SLIP(77, u32_at(message + AMOUNT), 0);
+        *total = SLIP(78, more, (uint32_t)more);
+        *taken = SLIP(79, serial, *taken);
+    }
+    *taken = SLIP(80, *taken, serial); /* 80: answers any record that it sees */
+    return 0;
 }

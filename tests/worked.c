@@ -1,8 +1,8 @@
 /*
- * The worked cases of document 01, known texts, and cards of track 1 whose bits are
- * written out by hand, with the answers. tests/run runs them against the library,
- * and against the reference too: what judges the library is itself held to the
- * paper's own examples.
+ * The worked cases of document 01, known texts, cards of track 1 whose bits are
+ * written out by hand, and messages to the host, with the answers. tests/run runs
+ * them against the library, and against the reference too: what judges the library
+ * is itself held to the paper's own examples.
  */
 #include <inttypes.h>
 #include <stdbool.h>
@@ -322,6 +322,69 @@ static void walk(void)
     expect("a refusal's numbers", at == 99 && next == 99 && serial == 3, 1);
 }
 
+/* A message to a ledger, its answer, and the ledger that it leads to. */
+struct ledger {
+    uint32_t taken;
+    uint64_t total;
+};
+
+static void hears(const char *what, const uint8_t *message, size_t n, struct ledger l,
+                  uint32_t answer, struct ledger after)
+{
+    expect(what, gw_ledger_take(message, n, &l.taken, &l.total), answer);
+    expect("its last serial taken", l.taken, after.taken);
+    expect("its total", l.total == after.total, 1);
+}
+
+/* W13's record as a message: wanted by a fresh ledger alone. Around the last serial,
+ * and at the bounds of what messages can have led to. */
+static void ledger(void)
+{
+    const struct ledger fresh = {0, 0}, one = {1, 250}, two = {2, 500};
+    const uint64_t most = UINT64_C(4294967295) * 4294967295;
+    const struct ledger last = {UINT32_MAX, most}, before = {UINT32_MAX - 1, most - UINT32_MAX};
+    uint8_t message[33];
+    memcpy(message, w13, 32);
+    message[32] = 0;
+    hears("the first", message, 32, fresh, 0, one);
+    hears("a repeat", message, 32, one, 0, one);
+    hears("an earlier one", message, 32, two, 0, two);
+    hears("31 bytes", message, 31, fresh, 6, fresh);
+    hears("33 bytes", message, 33, fresh, 6, fresh);
+    hears("no bytes", message, 0, one, 6, one);
+    hears("a total too low", message, 32, (struct ledger){2, 1}, 6, (struct ledger){2, 1});
+    hears("a total too high", message, 32, (struct ledger){0, 1}, 6, (struct ledger){0, 1});
+    message[0] = 3;
+    hears("a gap", message, 32, one, 0, one);
+    hears("the next", message, 32, two, 0, (struct ledger){3, 750});
+    memset(message, 0xff, 4);
+    memset(message + 8, 0xff, 4);
+    hears("the last serial", message, 32, before, 0, last);
+    hears("it again", message, 32, last, 0, last);
+    put_number(message, 4, 1);
+    hears("and the first again", message, 32, last, 0, last);
+    put_number(message, 4, 0);
+    hears("serial 0", message, 32, last, 6, last);
+}
+
+/* A box and its host: the box releases by the answers alone, of which 0 meets 20. */
+static void released_by_answers(void)
+{
+    uint8_t slots[64] = {0};
+    uint32_t serial, taken = 0, count = 99;
+    uint64_t total = 0, sum = 99;
+    for (int i = 0; i < 2; i++)
+        gw_journal_book(slots, 64, bytes("4111111111111111"), 16, 7, 250, 0, &serial);
+    expect("the second is heard first", gw_ledger_take(slots + 32, 32, &taken, &total), 0);
+    expect("an answer of 0", gw_journal_release(slots, 64, taken, &count, &sum), 20);
+    expect("it does no harm", count == 99 && sum == 99 && slots[15] == 1 && slots[47] == 1, 1);
+    expect("the first", gw_ledger_take(slots, 32, &taken, &total), 0);
+    expect("the second again", gw_ledger_take(slots + 32, 32, &taken, &total), 0);
+    expect("the last answer", gw_journal_release(slots, 64, taken, &count, &sum), 0);
+    expect("both released", count == 2 && sum == total && total == 500, 1);
+    expect("a released record", gw_ledger_take(slots, 32, &taken, &total), 6);
+}
+
 int main(void)
 {
     expect("version", gw_version(), GW_VERSION);
@@ -336,6 +399,9 @@ int main(void)
     swipe1(false);
     swipe1(true);
     walk();
-    printf("worked cases, and cards of track 1: %s\n", wrong ? "WRONG" : "as written");
+    ledger();
+    released_by_answers();
+    printf("worked cases, cards of track 1, and messages to the host: %s\n",
+           wrong ? "WRONG" : "as written");
     return wrong ? 1 : 0;
 }

@@ -1,5 +1,5 @@
--- Any two outcomes that a function on the journal and the swipe allows are equal: the number answered, what stands behind its pointers,
--- and each byte that it may write. Assumes nothing.
+-- Any two outcomes that a function on the journal, the swipe and the host's ledger allows are equal: the number answered, what stands behind its
+-- pointers, and each byte that it may write. Assumes nothing.
 use Prim.Native.Nat.{ℕ}
 use mathlib.Core.Path.{_≡_}
 use mathlib.Core.List.{List}
@@ -8,8 +8,10 @@ use Rattle.journal.proofs.Laws.{one-booking, one-release, one-finding, one-tell
 use Rattle.journal.proofs.Surveys.{one-survey}
 use Rattle.swipe.specs.Swipe.{Given}
 use Rattle.swipe.proofs.Laws as swipe
+use Rattle.ledger.proofs.Laws.{take-one}
 use Rattle.hands.proofs.Laws.{hands-one, hands-on-one, hands-on-bytes}
-use Rattle.c_box.specs.Calls.{JournalBooks, JournalReleases, JournalShows, JournalTells, JournalWalks, WalkStarts, WalkSteps, JournalSurveys, Swipes}
+use Rattle.c_box.specs.Calls.{JournalBooks, JournalReleases, JournalShows, JournalTells, JournalSurveys}
+use Rattle.c_box.specs.Calls.{JournalWalks, WalkStarts, WalkSteps, Swipes, LedgerTakes}
 
 -- journal_book
 pub journal-book-one : (j pan : List ℕ) (label amount clock x r q y z : ℕ) (k l : List ℕ)
@@ -57,3 +59,8 @@ swipe-one g amount clock t j x r q y z u v k l f h =
     let s = swipe.swipe-one g amount clock t j _ _ u v k l (f .allowed) (h .allowed) in
     let n = hands-on-one f h (s .0) in
     (n .0, n .1, s .1, s .2)
+
+-- ledger_take
+pub ledger-take-one : (message : List ℕ) (x : ℕ × ℕ) (r q : ℕ) (y z : ℕ × ℕ)
+    → LedgerTakes message x r y → LedgerTakes message x q z → (r ≡ q) × (y ≡ z)
+ledger-take-one message x r q y z f g = hands-on-one f g (take-one _ message _ _ (f .allowed) (g .allowed))

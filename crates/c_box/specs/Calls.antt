@@ -1,4 +1,4 @@
--- What each function on the journal and the swipe allows, in the header's order. Assumes nothing.
+-- What each function on the journal, the swipe and the host's ledger allows, in the header's order. Assumes nothing.
 use Prim.Native.Nat.{ℕ}
 use mathlib.Core.List.{List}
 use Rattle.bits.specs.Stream.{bitN}
@@ -8,6 +8,7 @@ use Rattle.journal.specs.Survey.{Surveys, saidSurveyed}
 use Rattle.walker.specs.Steps.{walkRule, startRule, stepRule}
 use Rattle.swipe.specs.Swipe.{Given, saidSwiped}
 use Rattle.swipe.specs.Swipe as swipe
+use Rattle.ledger.specs.Ledger.{Takes, saidTaken}
 use Rattle.hands.specs.Hands.{Hands, HandsOn}
 
 -- ---- the journal
@@ -40,3 +41,8 @@ JournalSurveys j out x r y k = HandsOn (λ q. Surveys j out q k) saidSurveyed x 
 
 abbrev pub Swipes : Given → ℕ → ℕ → List ℕ → List ℕ → ℕ → ℕ → ℕ → List ℕ → List ℕ → Type 0
 Swipes g amount clock t j x r y u k = HandsOn (λ q. swipe.Swipes g amount clock t j q u k) saidSwiped x (λ v. v) r y
+
+-- ---- the host's ledger, whose two numbers are lent
+
+abbrev pub LedgerTakes : List ℕ → ℕ × ℕ → ℕ → ℕ × ℕ → Type 0
+LedgerTakes message x r y = HandsOn (Takes (record { taken = x .0; total = x .1 }) message) saidTaken x (λ l. (l .taken, l .total)) r y

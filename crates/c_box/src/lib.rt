@@ -1,8 +1,10 @@
-// The C interface on the journal and the swipe: each function calls the library's call and hands numbers over.
+// The C interface on the journal, the swipe and the host's ledger: each function calls the library's call and hands numbers over.
+mod hosts;
 mod journals;
 mod swipes;
 mod walks;
 
+pub use hosts::ledger_take;
 pub use journals::journal_book;
 pub use journals::journal_release;
 pub use journals::journal_show;

@@ -3,6 +3,7 @@
 mod accounts;
 mod cards;
 mod digits;
+mod hosts;
 mod journals;
 mod stripe;
 mod swipes;
@@ -15,5 +16,5 @@ ghost use Rattle.goltwarden.specs.Version.{VersionIs};
 pub extern "C" fn gw_version() -> u32
     ensures { λ r. ⌜ VersionIs r ⌝ }
 {
-    3
+    4
 }
