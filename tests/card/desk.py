@@ -1,7 +1,7 @@
-"""Tests of the commands as people expect them: answers that arrive, lines as they are typed, help, dumps."""
-import functools, operator, os, random, subprocess
+"""Tests of the commands as people expect them: answers that arrive, lines as they are typed, help, dumps, box and host."""
+import collections, functools, operator, os, random, subprocess
 
-from drive import CARD, EVERY, OTHER, SLOT, SLOTS, lines, program, records, run, same, traced
+from drive import CARD, EVERY, OTHER, SLOT, SLOTS, Session, lines, program, records, run, same, traced
 
 
 def journal_at(path, slots=SLOTS):
@@ -96,7 +96,7 @@ def groups(folder):
 def every_example(folder):
     """Each line of `help` begins with a command, whose example is understood and is answered as the line says."""
     known = lines("help\n")
-    same(len(known) >= 26, True, "how many commands")
+    same(len(known) >= 28, True, "how many commands")
     before = f"slots 4\nbook {CARD} 7 250 0\nsite {EVERY}\n"
     for line in known:
         usage, rest = line.split(" -> ", 1)
@@ -113,7 +113,7 @@ def nearest(folder):
     """An unknown command is answered with the nearest one."""
     for word, wanted in (
         ("relase", "release"), ("bok", "book"), ("luhnmake", "luhn-make"), ("swype", "swipe"), ("survy", "survey"), ("Tell", "tell"),
-        ("swype1", "swipe1"), ("trac1", "track1"), ("Layout1", "layout1"),
+        ("swype1", "swipe1"), ("trac1", "track1"), ("Layout1", "layout1"), ("leger", "ledger"), ("taken", "take"),
     ):
         same(lines(f"{word} 1\n"), [f"not understood: no such command (nearest: {wanted}; help lists all)"])
     same(lines("x" * 100000 + "\n")[0].startswith("not understood: no such command (nearest: "), True, "a long word")
@@ -193,5 +193,111 @@ def wrong_lengths(folder):
         same(lines(f"journal {word}\nsurvey\ndump\n"), [wanted] * 3, f"{n} bytes")
 
 
+# ---- box and host
+
+# no held records, made of one: released, cut, too long, of serial 0, of amount 0, of a PAN of 12 digits, with a digit and a zero that are none
+DAMAGED = [
+    lambda r: r[:15] + b"\2" + r[16:], lambda r: r[:31], lambda r: r + b"\0", lambda r: bytes(4) + r[4:], lambda r: r[:8] + bytes(4) + r[12:],
+    lambda r: r[:14] + bytes([12]) + r[15:], lambda r: r[:20] + b":" + r[21:], lambda r: r[:29] + b"\1" + r[30:],
+]
+
+
+class Course:
+    """A box and the host on one run of the program, asked event by event, and what each must answer. Kept are the amounts of all payments
+    booked, how many are released, the last serial the host has taken, and every record and every answer that was ever sent."""
+
+    def __init__(self, seed, slots):
+        self.chance, self.slots, self.session = random.Random(seed), slots, Session()
+        self.amounts, self.released, self.taken, self.records, self.answers = [], 0, 0, [], []
+        # how often each kind of event was met, and the sum of what the releases answered
+        self.met, self.sum = collections.Counter(), 0
+        self.ask(f"slots {slots}", f"slots {slots}")
+
+    def ask(self, line, wanted):
+        same(self.session.ask(line), wanted, f"{line} after {sum(self.met.values())} events")
+
+    def book(self):
+        amount, clock = self.chance.choice([1, 250, 4294967295]), self.chance.choice([0, 1700000000, 4294967295])
+        fits = len(self.amounts) < self.released + self.slots
+        self.met["booked" if fits else "full"] += 1
+        self.amounts += [amount] if fits else []
+        self.ask(f"book {CARD} 7 {amount} {clock}", f"booked {len(self.amounts)}" if fits else "refused 18: journal full")
+
+    def send(self):
+        self.send_record(self.chance.randint(0, len(self.amounts) + 1))
+
+    def send_record(self, serial):
+        held = self.released < serial <= len(self.amounts)
+        self.met["sent" if held else "not held"] += 1
+        answer = self.session.ask(f"show {serial}")
+        if held:
+            self.records.append((serial, answer.split()[1]))
+        else:
+            same(answer, "refused 20: serial not there", f"show {serial}")
+
+    def arrive(self):
+        if self.records:
+            self.arrive_record(*self.chance.choice(self.records))
+
+    def arrive_record(self, serial, record):
+        wanted = serial == self.taken + 1
+        self.met["taken" if wanted else "old" if serial <= self.taken else "gap"] += 1
+        self.taken += wanted
+        self.ask(f"take {record}", f"taken {self.taken} total {sum(self.amounts[: self.taken])}")
+        self.answers.append(self.taken)
+
+    def damaged(self):
+        if self.records:
+            self.met["damaged"] += 1
+            message = self.chance.choice(DAMAGED)(bytes.fromhex(self.chance.choice(self.records)[1]))
+            self.ask(f"take {message.hex()}", "refused 6: layout wrong")
+
+    def answer(self):
+        if self.answers:
+            self.arrive_answer(self.chance.choice(self.answers))
+
+    def arrive_answer(self, serial):
+        free = self.amounts[self.released : serial]
+        self.met["answer 0" if serial == 0 else "released" if free else "late answer"] += 1
+        self.released, self.sum = max(self.released, serial), self.sum + sum(free)
+        self.ask(f"release {serial}", f"released {len(free)} {sum(free)}" if serial else "refused 20: serial not there")
+
+    def settle(self):
+        """Every held record arrives in order, then the last answer: nothing is held, and the box has released the host's total."""
+        for serial in range(self.released + 1, len(self.amounts) + 1):
+            self.send_record(serial)
+            self.arrive_record(*self.records[-1])
+        self.arrive_answer(self.answers[-1])
+        self.ask("tell", f"held 0 0 oldest 0 newest {len(self.amounts)} left {self.slots}")
+        self.ask(f"take {self.records[-1][1]}", f"taken {len(self.amounts)} total {self.sum}")
+        same(self.session.end(), [])
+
+
+def any_course(folder):
+    """Records and answers between box and host are lost, repeated and late, other messages come in between, and the clock is anything: the
+    host's total is the sum of the payments it has taken, each released payment among them, and the last answer settles it."""
+    met = collections.Counter()
+    for seed, slots in ((1, 1), (2, 3), (3, 8), (4, SLOTS)):
+        course = Course(seed, slots)
+        events = [course.book, course.send, course.send, course.arrive, course.arrive, course.arrive, course.damaged, course.answer]
+        for turn in range(400):
+            course.chance.choice(events)()
+        course.settle()
+        met += course.met
+    kinds = ["answer 0", "booked", "damaged", "full", "gap", "late answer", "not held", "old", "released", "sent", "taken"]
+    same(sorted(met), kinds, "kinds of events that were met")
+
+
+def ledger_in_memory(folder):
+    """The ledger stands beside any journal, one that is only read too, changes none, and is gone at the end."""
+    path = journal_at(folder / "journal", 4)
+    same(lines(f"book {CARD} 7 250 0\n", path), ["booked 1"])
+    data, record = path.read_bytes(), lines("show 1\n", path)[0].split()[1]
+    for words in ((path,), ("--read-only", path)):
+        same(lines(f"take {record}\ntake {record}\nledger\n", *words), ["taken 1 total 250"] * 2 + ["ledger 0 0"])
+        same(lines(f"take {'02' + record[2:]}\n", *words), ["taken 0 total 0"], "the next run")
+    same(path.read_bytes(), data, "the file")
+
+
 TESTS = [few_writes, each_in_time, full_output, closed_pipe, long_unheard, crlf, groups, every_example, nearest, any_fleet_card,
-         pasted_back, decoded, wrong_lengths]
+         pasted_back, decoded, wrong_lengths, any_course, ledger_in_memory]

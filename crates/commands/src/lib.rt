@@ -1,10 +1,12 @@
 // The commands, one a line, and the answer to each.
 use checks::tables;
 use journals::memory;
+use ledger::Ledger;
 use lines::Source;
 use menu::Changing;
 use menu::Command;
 use menu::Filling;
+use menu::OnLedger;
 use menu::OnTables;
 use payments::Place;
 use say::fields;
@@ -23,12 +25,14 @@ pub struct State {
     pub fd: i32,
     pub read_only: bool,
     pub lost: bool,
+    // the host's ledger
+    pub ledger: Ledger,
     // whether a line is shown before its answer, and whether one is asked for by a prompt
     pub shown: bool,
     pub prompt: bool,
 }
 
-// No tables, and an empty journal of 2,048 slots in memory.
+// No tables, an empty journal of 2,048 slots in memory, and a fresh ledger.
 pub fn in_memory(shown: bool) -> State
     ensures { λ r. ⌜ (r .site ≤ 0) × (r .acquirer ≤ 0) × (r .length ≤ 65536) ⌝ }
 {
@@ -40,6 +44,7 @@ pub fn in_memory(shown: bool) -> State
         fd: -1,
         read_only: false,
         lost: false,
+        ledger: ledger::fresh(),
         shown,
         prompt: false,
     }
@@ -170,6 +175,23 @@ fn change(
     next
 }
 
+// ---- the host's ledger
+
+fn on_ledger(out: &mut [u8], c: OnLedger, line: &[u8], st: State) -> State {
+    let ledger = st.ledger;
+    let mut next = st;
+    match c {
+        OnLedger::Fresh => {
+            next.ledger = hosting::fresh(out);
+            next
+        }
+        OnLedger::Take => {
+            next.ledger = hosting::take(out, line, ledger);
+            next
+        }
+    }
+}
+
 // ---- a line
 
 // Answers a line, and says what is kept from now on.
@@ -201,6 +223,7 @@ fn answer(
             journal,
             st,
         ),
+        Command::Ledger(c) => on_ledger(out, c, line, st),
         _ => {
             answers::answer(out, row, line, text::piece(journal, 0, n), st.lost);
             st
