@@ -1,5 +1,6 @@
 // The battery swap: forty payments in a journal of 16 slots. In the middle the clock starts at the epoch again; releases arrive late and twice;
 // the journal is full for a while. Nothing is lost.
+use crate::records;
 use journal::Told;
 use replay::Replayed;
 use replay::Totals;
@@ -20,34 +21,17 @@ fn clock_at(n: u8, good: bool) -> u32 {
     172800 * ((n - 22) as u32)
 }
 
-// Record n of the script.
-fn write(script: &mut [u8; 6400], n: u8, kind: u8, amount: u32, clock: u32, serial: u32) {
-    if 50 <= n {
-        return;
-    }
-    let at = 128 * (n as usize);
-    let head = [kind, 16, 7, 0];
-    let amount_bytes = text::le32_of(amount);
-    let clock_bytes = text::le32_of(clock);
-    let serial_bytes = text::le32_of(serial);
-    text::put_at(script, at, &head);
-    text::put_at(script, at + 4, &amount_bytes);
-    text::put_at(script, at + 8, &clock_bytes);
-    text::put_at(script, at + 12, &serial_bytes);
-    text::put_at(script, at + 20, b"4111111111111111");
-}
-
 // Call n of the spring. No two payments have the same amount, so that one for another would show.
 fn call(script: &mut [u8; 6400], n: u8, b: u8, good: bool) {
     if b == b'p' {
-        write(script, n, 1, 100 + 10 * (n as u32), clock_at(n, good), 0);
+        records::book(script, n, 100 + 10 * (n as u32), clock_at(n, good));
         return;
     }
     if b < 64 {
-        write(script, n, 9, 0, 0, 0);
+        records::unknown(script, n);
         return;
     }
-    write(script, n, 2, 0, 0, (b - 64) as u32);
+    records::release(script, n, (b - 64) as u32);
 }
 
 fn spring(script: &mut [u8; 6400], good: bool) {
@@ -59,7 +43,8 @@ fn spring(script: &mut [u8; 6400], good: bool) {
 
 // ---- what it comes to
 
-fn so_many(out: &mut [u8; 4096], name: &[u8], count: u64, sum: u64) {
+// A count with its sum, under a name.
+pub fn so_many(out: &mut [u8; 4096], name: &[u8], count: u64, sum: u64) {
     say::value(out, name, count);
     say::value(out, b" of ", sum);
 }
@@ -85,7 +70,8 @@ fn outcome(out: &mut [u8; 4096], t: Totals, count: u32, sum: u64) {
     }
 }
 
-fn told(out: &mut [u8; 4096], t: Totals, journal: &[u8]) {
+// The totals of a script, and what the journal holds after it.
+pub fn told(out: &mut [u8; 4096], t: Totals, journal: &[u8]) {
     match journal::tell(journal) {
         Told::Held(count, sum, _, _) => outcome(out, t, count, sum),
         Told::Refused(why) => say::refused(out, why),
@@ -97,8 +83,8 @@ pub fn played(out: &mut [u8; 4096], script: &[u8], site: &[u8], journal: &mut [u
     let mut scratch = [0u8; 76];
     match replay::replay(script, site, b"", &mut scratch, journal) {
         Replayed::Played(t) => told(out, t, journal),
-        Replayed::NotWhole => say::words(out, b"no whole number of records\n"),
-        Replayed::TooLong => say::words(out, b"too many records\n"),
+        Replayed::NotWhole => records::not_whole(out),
+        Replayed::TooLong => records::too_long(out),
     }
 }
 

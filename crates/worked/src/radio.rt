@@ -1,0 +1,133 @@
+// Box and host over the radio: five payments in a journal of three slots, most of them at the epoch, and an air of four places. First the host hears
+// nothing that it wants; then records and answers arrive late, twice and out of order; in the end all have arrived.
+use crate::battery;
+use crate::lengths;
+use crate::records;
+use exchange::Exchanged;
+use exchange::Sums;
+
+// ---- the script
+
+// Three payments fill the journal, and a fourth is refused with 18. The host hears noise from a place that nothing was sent into, and answers nothing:
+// an answer of 0 was never sent. Record 1 is sent into a place that isn't there, and lost. Record 2 isn't wanted yet; the host answers 0, which meets 20
+// at the box. An answer that was never sent does nothing, and a release written into the script is passed over.
+fn unheard(script: &mut [u8; 4480]) {
+    let w11 = lengths::W11;
+    records::book(script, 0, 100, 1772236800);
+    records::book(script, 1, 200, 0);
+    records::swipe2(script, 2, 300, 135, &w11);
+    records::book(script, 3, 350, 0);
+    records::deliver(script, 4, 0);
+    records::answer(script, 5, 0);
+    records::send(script, 6, 1, 9);
+    records::deliver(script, 7, 9);
+    records::send(script, 8, 2, 1);
+    records::deliver(script, 9, 1);
+    records::answer(script, 10, 0);
+    records::answer(script, 11, 2);
+    records::release(script, 12, 3);
+}
+
+// Record 1 is sent again and arrives twice; its answer releases it, and payment 4 is booked over it. Record 2 arrives once more and is taken now; record 1
+// arrives once more, of which the box has nothing left. The answer of 4 was never sent.
+fn late(script: &mut [u8; 4480]) {
+    records::send(script, 13, 1, 0);
+    records::deliver(script, 14, 0);
+    records::deliver(script, 15, 0);
+    records::answer(script, 16, 1);
+    records::book(script, 17, 400, 1772323200);
+    records::deliver(script, 18, 1);
+    records::deliver(script, 19, 0);
+    records::answer(script, 20, 4);
+}
+
+// Record 4 arrives before record 3, and again after it. Its answer arrives, then an older one, then the same again. A swipe that can't be read is refused;
+// payment 5 is booked by the next one, sent, taken and released. The answer of 0 arrives again.
+fn caught_up(script: &mut [u8; 4480]) {
+    let w11 = lengths::W11;
+    let e1 = lengths::E1;
+    records::send(script, 21, 3, 2);
+    records::send(script, 22, 4, 3);
+    records::deliver(script, 23, 3);
+    records::deliver(script, 24, 2);
+    records::deliver(script, 25, 3);
+    records::answer(script, 26, 4);
+    records::answer(script, 27, 2);
+    records::answer(script, 28, 4);
+    records::swipe1(script, 29, 450, 135, &w11);
+    records::swipe1(script, 30, 500, 259, &e1);
+    records::send(script, 31, 5, 2);
+    records::deliver(script, 32, 2);
+    records::answer(script, 33, 5);
+    records::answer(script, 34, 0);
+}
+
+// ---- what it comes to
+
+fn agreed(out: &mut [u8; 4096], sums: Sums, journal: &[u8]) {
+    let ledger = sums.ledger;
+    battery::so_many(out, b"taken ", ledger.taken as u64, ledger.total);
+    say::words(out, b", ");
+    battery::told(out, sums.totals, journal);
+}
+
+// The first so many bytes of a script, run on an all-zero journal and a fresh ledger.
+fn after(out: &mut [u8; 4096], words: &[u8], script: &[u8], n: usize, air: &mut [u8]) {
+    let every = lengths::EVERY;
+    let mut scratch = [0u8; 76];
+    let mut journal = [0u8; 96];
+    say::words(out, words);
+    match exchange::run(
+        text::piece(script, 0, n),
+        &every,
+        b"",
+        &mut scratch,
+        &mut journal,
+        air,
+        ledger::fresh(),
+    ) {
+        Exchanged::Ran(sums) => agreed(out, sums, &journal),
+        Exchanged::NotWhole => records::not_whole(out),
+        Exchanged::TooLong => records::too_long(out),
+    }
+}
+
+// All on one air, which each run clears first: record 1, left in its first place, isn't heard when the first events are run again.
+fn stages(out: &mut [u8; 4096], script: &[u8; 4480]) {
+    let mut air = [0u8; 128];
+    after(
+        out,
+        b"nothing wanted has arrived: ",
+        script,
+        128 * 13,
+        &mut air,
+    );
+    after(
+        out,
+        b"two taken, one answer arrived: ",
+        script,
+        128 * 21,
+        &mut air,
+    );
+    after(out, b"all arrived: ", script, 128 * 35, &mut air);
+    after(
+        out,
+        b"the first of it again, the air as it was left: ",
+        script,
+        128 * 13,
+        &mut air,
+    );
+    after(out, b"a byte too few: ", script, 128 * 35 - 1, &mut air);
+}
+
+pub fn run(out: &mut [u8; 4096]) {
+    let mut script = [0u8; 4480];
+    unheard(&mut script);
+    late(&mut script);
+    caught_up(&mut script);
+    say::words(
+        out,
+        b"\n# Box and host over the radio: five payments in a journal of three slots\n",
+    );
+    stages(out, &script);
+}
