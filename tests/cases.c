@@ -262,23 +262,9 @@ static unsigned draw_number(const struct track *t)
     return below(1u << (t->width - 1));
 }
 
-/* A bit of the last character that may be the end flipped, or the track cut off
- * in it, where a track that begins at this place reaches so far. */
-static void spoil_last(const struct track *t, struct bits *s, size_t begin)
-{
-    size_t at = begin + (t->most + 1) * t->width + below(t->width);
-    if (at >= s->n)
-        return;
-    if (one_in(2))
-        s->bit[at] ^= 1;
-    else
-        s->n = at;
-}
-
 /* Start, characters, end and LRC; now and then without an end, or a wrong LRC. */
 static void add_track(const struct track *t, struct bits *s, const uint8_t *chars, size_t n)
 {
-    size_t begin = s->n;
     unsigned end = number_of(t, t->end), lrc = number_of(t, t->start) ^ end;
     add_number(t, s, number_of(t, t->start));
     for (size_t i = 0; i < n; i++) {
@@ -288,13 +274,40 @@ static void add_track(const struct track *t, struct bits *s, const uint8_t *char
     if (!one_in(30))
         add_number(t, s, end);
     add_number(t, s, one_in(30) ? draw_number(t) : lrc);
-    if (one_in(12))
-        spoil_last(t, s, begin);
 }
 
+/* None, or fewer than a byte has, so that a track begins at any bit of it, or bytes. */
 static size_t clocking_zeros(void)
 {
-    return one_in(2) ? below(3) : below(60);
+    return one_in(4) ? 0 : below(one_in(2) ? 8 : 60);
+}
+
+/* The zeros behind a track: any, or as many as fill the last byte; now and then with a
+ * lone one among them. */
+static void add_last_zeros(struct bits *s)
+{
+    size_t n = one_in(3) ? (8 - s->n % 8) % 8 : clocking_zeros();
+    add_zeros(s, n);
+    if (n > 0 && one_in(10))
+        s->bit[s->n - 1 - below((uint32_t)n)] = 1;
+}
+
+/* In a stream whose track begins at a place, any character of it, or the last that may be
+ * the end or one beside it: the stream is cut off there, or a bit flipped, or with it
+ * the same bit of the next character, so that the LRC doesn't show it. */
+static void spoil_character(const struct track *t, struct bits *s, size_t begin)
+{
+    size_t character = one_in(2) ? t->most + below(3) : between(1, t->most);
+    size_t at = begin + character * t->width + below(t->width);
+    if (at >= s->n)
+        return;
+    if (one_in(4)) {
+        s->n = at;
+        return;
+    }
+    s->bit[at] ^= 1;
+    if (!one_in(3))
+        s->bit[at + t->width] ^= 1;
 }
 
 static void reverse(struct bits *s)
@@ -341,15 +354,18 @@ static void pack(const struct bits *s, uint8_t *bytes, size_t *n, uint64_t *bits
 static void make_stream(struct made *m, const struct track *t, const uint8_t *chars, size_t n)
 {
     static struct bits s;
+    size_t begin = clocking_zeros();
     s.n = 0;
-    add_zeros(&s, clocking_zeros());
+    add_zeros(&s, begin);
     add_track(t, &s, chars, n);
-    add_zeros(&s, clocking_zeros());
+    add_last_zeros(&s);
+    if (one_in(4))
+        spoil_character(t, &s, begin);
     if (one_in(2))
         reverse(&s);
     if (one_in(50))
         stretch(&s);
-    if (one_in(4))
+    if (one_in(6))
         spoil_bits(&s);
     pack(&s, m->bytes[0], &m->r.n[0], &m->r.bits);
 }
@@ -407,7 +423,7 @@ static void make_track(struct made *m)
         make_random_stream(m, t);
     else
         make_stream(m, t, chars, n);
-    m->r.n[1] = one_in(4) ? below(t->most + 8) : t->most - 1 + below(4);
+    m->r.n[1] = one_in(8) ? below(t->most + 8) : t->most + below(3);
     fill_any(m->bytes[1], m->r.n[1]);
 }
 
