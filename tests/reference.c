@@ -9,7 +9,8 @@
  *
  * -DWRONG=k makes one of the wrong references that the tests must catch: each
  * SLIP(k, right, wrong) is `right`, and `wrong` in the reference number k; each
- * SLIP_ONE is so where the track `t` is track 1, and right for track 2.
+ * SLIP_ONE is so where the track `t` is track 1, and right for track 2; each SLIP_TWO
+ * where it is track 2.
  */
 #include <stdbool.h>
 #include <string.h>
@@ -20,6 +21,7 @@
 #endif
 #define SLIP(k, right, wrong) (WRONG == (k) ? (wrong) : (right))
 #define SLIP_ONE(k, right, wrong) (WRONG == (k) && t == &track1 ? (wrong) : (right))
+#define SLIP_TWO(k, right, wrong) (WRONG == (k) && t == &track2 ? (wrong) : (right))
 
 uint32_t gw_version(void)
 {
@@ -332,10 +334,25 @@ static uint32_t read_lrc(const struct track *t, struct stream *s, unsigned all)
     if (SLIP_ONE(53, SLIP(13, data_of(t, off), off), off) != 0)
         return 12;
     skip_zeros(s);
-    return bits_left(s) == 0 ? 0 : SLIP(12, 13, 0);
+    return bits_left(s) < SLIP(88, 1, 8) ? 0 : SLIP(12, 13, 0);
 }
 
-/* Reading one way: the characters between the sentinels in `out`. */
+/* For a wrong reference: whether both characters of a look are of even parity. The last
+ * one read, number n, is one of them. */
+static bool even_twice(const struct track *t, struct stream s, uint32_t n)
+{
+    unsigned bits;
+    s.next -= (1 + n % 2) * t->width;
+    return next_character(t, &s, &bits) == 10 && next_character(t, &s, &bits) == 10;
+}
+
+/* Reading one way: the characters between the sentinels in `out`.
+ *
+ * Wrong references go wrong as a reading of two characters at a look can, in whose
+ * second half n is odd: the two are exchanged (81), the end is passed over in the first
+ * half (82), the 39th character is taken in the second (83), an odd last one is left
+ * out (84), parity is looked at in the first half alone (85) or over the ten bits (86),
+ * one entry of the table is wrong (87). */
 static uint32_t read_one_way(const struct track *t, struct stream *s, uint8_t *out,
                              uint32_t *count)
 {
@@ -346,16 +363,20 @@ static uint32_t read_one_way(const struct track *t, struct stream *s, uint8_t *o
         return 8;
     for (uint32_t n = 0; ; n++) {
         uint32_t refusal = next_character(t, s, &bits);
+        if (refusal == 10 && SLIP_TWO(85, SLIP_TWO(86, false, even_twice(t, *s, n)), n % 2 == 1))
+            refusal = 0;
+        if (SLIP_TWO(87, false, n % 2 == 1 && out[n - 1] == '4' && data_of(t, bits) == 2))
+            refusal = 10;
         if (refusal)
             return SLIP_ONE(55, refusal, n == most ? 11 : refusal);
         all ^= SLIP(14, bits, bits == t->end ? 0 : bits);
-        if (bits == t->end) {
-            *count = n;
+        if (bits == t->end && SLIP_TWO(82, true, n % 2 == 1)) {
+            *count = SLIP_TWO(84, n, n - n % 2);
             return read_lrc(t, s, all);
         }
-        if (n == most)
+        if (SLIP_TWO(83, n == most, n == most + 1))
             return 11;
-        out[n] = (uint8_t)(t->zero + data_of(t, bits));
+        out[SLIP_TWO(81, n, n ^ 1)] = (uint8_t)(t->zero + data_of(t, bits));
     }
 }
 
@@ -368,7 +389,8 @@ OVER_TRACK uint32_t read_track(const struct track *t, const struct stripe *from,
         return 7;
     for (int turn = 0; turn < 2; turn++) {
         *reversed = SLIP(56, turn == 1, turn == 0);
-        struct stream s = {from->bytes, from->bits, *reversed, 0};
+        size_t bits = SLIP(89, from->bits, (from->bits + 7) / 8 * 8);
+        struct stream s = {from->bytes, bits, *reversed, 0};
         refusals[*reversed] = read_one_way(t, &s, chars, count);
         if (refusals[*reversed] == 0)
             return 0;
