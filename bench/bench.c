@@ -1,7 +1,8 @@
 /*
  * The benchmark's program: each call on fixed inputs, by the library, by the
  * reference (plain C at -O3) and by calls that do nothing, which cost what the
- * way to a call and back costs.
+ * way to a call and back costs; track 2's reading also with bench/pairs.c in the
+ * reference's place.
  *
  * Run by bench/run under bench/count.c. Standard output: `row LINE NAME SIZE
  * CALLS`, then of each side its answer and its deepest stack, and `input NAME SIZE
@@ -13,9 +14,10 @@
 #include "encode.h"
 #include "mark.h"
 
-door nothing_call;
+door pairs_call, nothing_call;
 
 static door *const sides[3] = {library_call, reference_call, nothing_call};
+static door *const by_table[3] = {library_call, pairs_call, nothing_call};
 
 static struct made made;
 static struct lent lent;
@@ -167,14 +169,25 @@ static void lend_track(const struct track *t, bool reversed)
     }
 }
 
-static void track_row(const char *name, const struct track *t, bool reversed)
+static void track_row(const char *name, const struct track *t, bool reversed,
+                      door *const does[3])
 {
     start(t == &track1 ? TRACK1_READ : TRACK2_READ);
     lend_track(t, reversed);
     made.r.n[1] = t->most;
     printf("input %s 0 %s with LRC, sixteen zeros before and after%s\n", name, full_track(t),
            reversed ? ", last bit first" : "");
-    row(name, 0);
+    measure(name, 0, 1, does);
+}
+
+static void track_rows(void)
+{
+    track_row("track2_read.forward", &track2, false, sides);
+    track_row("track2_read.reversed", &track2, true, sides);
+    track_row("track2_read.forward.same_table", &track2, false, by_table);
+    track_row("track2_read.reversed.same_table", &track2, true, by_table);
+    track_row("track1_read.forward", &track1, false, sides);
+    track_row("track1_read.reversed", &track1, true, sides);
 }
 
 /* A table whose last record alone fits; the others lie below and above in turn. */
@@ -338,10 +351,7 @@ int main(void)
     static const unsigned records[] = {16, 64, 256, 1024, 4096};
     static const unsigned slots[] = {16, 64, 256, 1024, 2048};
     text_rows();
-    track_row("track2_read.forward", &track2, false);
-    track_row("track2_read.reversed", &track2, true);
-    track_row("track1_read.forward", &track1, false);
-    track_row("track1_read.reversed", &track1, true);
+    track_rows();
     ledger_rows();
     for (int i = 0; i < 5; i++)
         range_row(records[i]);

@@ -119,12 +119,13 @@ def stack_table(rows):
 
 
 def size_table(folder):
-    """The library's objects, and in the last line plain C's."""
+    """The library's objects, and in the last two lines plain C's."""
     lines = [[int(word) for word in line.split()[:3]] for line in read(folder, "sizes")[1:]]
-    library = [sum(column) for column in zip(*lines[:-1])]
+    library = [sum(column) for column in zip(*lines[:-2])]
+    names = ["Library", "Plain C", "Plain C by the same table, track 2's reading alone"]
     return table(["", "Code and constants", "Data"],
                  ([name, f"{text:,}", f"{data + zeroed:,}"]
-                  for name, (text, data, zeroed) in (("Library", library), ("Plain C", lines[-1]))))
+                  for name, (text, data, zeroed) in zip(names, [library, *lines[-2:]])))
 
 
 def notes(rows):
@@ -203,9 +204,12 @@ Written by bench/run (`make bench`). Counted are guest instructions, exactly, by
 qemu-user (bench/count.c): the same number on every machine, and on every run. A call's count goes
 from its first instruction to its return, what it calls included; what the program around it
 spends is measured by calls that do nothing, and taken off. Beside the library stands plain C
-for the same rules, tests/reference.c at -O3, in the same program on the same inputs. Instructions
-are not time: a division counts as one. Of loops only the survey's has a division by a variable,
-one for each slot, on both sides; a step of a walk has two.
+for the same rules, tests/reference.c at -O3, in the same program on the same inputs. It reads a
+stripe bit by bit. In the rows named same_table plain C is bench/pairs.c at -O3 instead, which
+reads track 2 as the library does, two characters at a look of ten bits by the table of request
+E9; bench/run checks first that it gives what tests/reference.c gives, on the tests' streams.
+Instructions are not time: a division counts as one. Of loops only the survey's has a division by
+a variable, one for each slot, on both sides; a step of a walk has two.
 """
 
 

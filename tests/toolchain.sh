@@ -59,3 +59,14 @@ find_library() {
 write_examples() {
     sed -n 's/^\([A-Z][A-Z0-9]*\)$/EXAMPLE("\1")/p' tests/iban-registry.txt >"$OUT/examples.inc"
 }
+
+# The comparison (tests/compare.c) without the two sides that it asks: its objects, in
+# COMPARE.
+compile_compare() {
+    write_examples
+    COMPARE=
+    for part in compare cases encode lent reached shapes; do
+        compile tests/$part.c $part.o
+        COMPARE="$COMPARE $part.o"
+    done
+}
