@@ -20,12 +20,8 @@ SWIPE = "most of what it costs more is its reading's, as above."
 
 # Row: why the library is above LIMIT times plain C there.
 NOTES = {
-    "track2_read.forward": READING + " Request E9 (two characters at a look) is to replace that.",
-    "track2_read.reversed": "as forward.",
     "track1_read.forward": READING,
     "track1_read.reversed": "as forward.",
-    "swipe": SWIPE,
-    "swipe.reversed": SWIPE,
     "swipe1": SWIPE,
     "swipe1.reversed": SWIPE,
 }
