@@ -118,7 +118,7 @@ def size_table(folder):
     """The library's objects, and in the last two lines plain C's."""
     lines = [[int(word) for word in line.split()[:3]] for line in read(folder, "sizes")[1:]]
     library = [sum(column) for column in zip(*lines[:-2])]
-    names = ["Library", "Plain C", "Plain C by the same table, track 2's reading alone"]
+    names = ["Library", "Plain C", "Plain C with the same table in it"]
     return table(["", "Code and constants", "Data"],
                  ([name, f"{text:,}", f"{data + zeroed:,}"]
                   for name, (text, data, zeroed) in zip(names, [library, *lines[-2:]])))
@@ -201,11 +201,12 @@ qemu-user (bench/count.c): the same number on every machine, and on every run. A
 from its first instruction to its return, what it calls included; what the program around it
 spends is measured by calls that do nothing, and taken off. Beside the library stands plain C
 for the same rules, tests/reference.c at -O3, in the same program on the same inputs. It reads a
-stripe bit by bit. In the rows named same_table plain C is bench/pairs.c at -O3 instead, which
-reads track 2 as the library does, two characters at a look of ten bits by the table of request
-E9; bench/run checks first that it gives what tests/reference.c gives, on the tests' streams.
-Instructions are not time: a division counts as one. Of loops only the survey's has a division by
-a variable, one for each slot, on both sides; a step of a walk has two.
+stripe bit by bit. In the rows named same_table plain C is tests/reference.c with the library's
+table in it, the one of request E9, and nothing else changed (bench/pairs.c): it reads the
+characters of track 2 two at a look of ten bits. bench/run checks first that it gives what
+tests/reference.c gives, on the tests' cases. Instructions are not time: a division counts as
+one. Of loops only the survey's has a division by a variable, one for each slot, on both sides; a
+step of a walk has two.
 """
 
 

@@ -23,6 +23,12 @@
 #define SLIP_ONE(k, right, wrong) (WRONG == (k) && t == &track1 ? (wrong) : (right))
 #define SLIP_TWO(k, right, wrong) (WRONG == (k) && t == &track2 ? (wrong) : (right))
 
+/* How many characters are read before the others are read one by one: none. But
+ * bench/pairs.c, which includes this file, reads as many as it can by a table. */
+#ifndef READ_BY_TABLE
+#define READ_BY_TABLE(t, s, out, all) 0
+#endif
+
 uint32_t gw_version(void)
 {
     return 4;
@@ -361,7 +367,7 @@ static uint32_t read_one_way(const struct track *t, struct stream *s, uint8_t *o
     skip_zeros(s);
     if (bits_left(s) < t->width || next_bits(t, s) != t->start)
         return 8;
-    for (uint32_t n = 0; ; n++) {
+    for (uint32_t n = READ_BY_TABLE(t, s, out, &all); ; n++) {
         uint32_t refusal = next_character(t, s, &bits);
         if (refusal == 10 && SLIP_TWO(85, SLIP_TWO(86, false, even_twice(t, *s, n)), n % 2 == 1))
             refusal = 0;
