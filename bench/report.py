@@ -14,17 +14,8 @@ import sys
 
 LIMIT = 1.2
 
-READING = ("both sides read bit by bit; plain C is compiled for each track by itself, here the width is a value (five bits, or seven for track 1), "
-           "and each bit is fetched by itself in the direction asked for.")
-SWIPE = "most of what it costs more is its reading's, as above."
-
 # Row: why the library is above LIMIT times plain C there.
-NOTES = {
-    "track1_read.forward": READING,
-    "track1_read.reversed": "as forward.",
-    "swipe1": SWIPE,
-    "swipe1.reversed": SWIPE,
-}
+NOTES = {}
 
 LIBRARY, PLAIN, NOTHING = range(3)
 EMPTY_CALL = 2  # the instructions of a call that does nothing
