@@ -12,7 +12,7 @@ use lib.Bits.{bitXor}
 use lib.Pow.{pow-mono}
 use borrow.Author.Tests.{eq-eqb, ne-eqb}
 use Rattle.reasons.specs.Reasons.{gives, refuses}
-use Rattle.bits.specs.Stream.{stream}
+use Rattle.stream.specs.Stream.{stream}
 use Rattle.bits.specs.Reading.{Letters, next, finish, body}
 
 module _ (l : Letters) (x : ℕ) (out : List ℕ) (m : ℕ) (p : List Bool) where

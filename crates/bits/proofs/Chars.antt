@@ -1,37 +1,42 @@
 -- One character of a stream, and the close behind the end sentinel: what the functions find is what the definitions say. Assumes nothing.
 use mathlib.Core.Path.{_≡_, refl, sym, ap, ap₂, _∙_, subst}
-use mathlib.Core.Bool.{Bool, true, false}
-use mathlib.Core.List.{List, [], _∷_, _++_}
+use mathlib.Core.Bool.{Bool, true}
+use mathlib.Core.List.{List, [], _∷_}
 use Prim.Native.Nat.{ℕ, suc, _+_, _-_, _*_, _/_, _%_, _^_, _≤_, _<_}
 use native.Mathlib.Omega.{arith}
 use native.Mathlib.Nat.{lt-of-lt-of-le}
+use native.Mathlib.Numerals.{add-one}
 use lib.Pow.{pow-mono}
-use lib.ListN.{length, getD, take, drop, length-drop, length-take}
-use lib.Seq.{take-suc, getD-drop}
+use lib.ListN.{length, take, drop, length-drop, length-take}
+use lib.Seq.{take-take}
 use lib.Dec.{leb, eqb}
 use lib.Count
 use lib.Count.{ones-step}
 use borrow.Author.Tests.{lt-leb, le-leb, leb-true, ne-eqb, eq-eqb}
 use Rattle.reasons.specs.Reasons.{gives, refuses, demand}
 use Rattle.reasons.proofs.Laws.{passed}
-use Rattle.bits.specs.Stream.{bitN, stream, number, ones, odd}
+use Rattle.stream.specs.Stream.{bitN, stream, number, ones, odd, oddOnes}
 use Rattle.bits.specs.Reading.{next, allZero, finish}
-use Rattle.bits.proofs.Streams.{part, bitN-le, length-stream, number-lt}
+use Rattle.stream.proofs.Streams.{part, length-stream}
+use Rattle.stream.proofs.Numbers.{lowest, above, number-lt, number-take}
 
 -- ones of a number are the ones of its bits
 ones-number : (l : List Bool) → Count.ones (number l) ≡ ones l
 unfolding number ones Count.ones
 ones-number [] = refl
 ones-number (b ∷ l) =
-    let h : bitN b ≤ 1 = bitN-le b in
-    let m : (bitN b + 2 * number l) % 2 ≡ bitN b = omega arith in
-    let q : (bitN b + 2 * number l) / 2 ≡ number l = omega arith in
-    ones-step (bitN b + 2 * number l) ∙ ap₂ (λ (x y : ℕ). x + Count.ones y) m q ∙ ap (λ (x : ℕ). bitN b + x) (ones-number l)
+    ones-step (bitN b + 2 * number l) ∙ ap₂ (λ (x y : ℕ). x + Count.ones y) (lowest b l) (above b l)
+    ∙ ap (λ (x : ℕ). bitN b + x) (ones-number l)
 
-ones-append : (l : List Bool) (b : Bool) → ones (l ++ (b ∷ [])) ≡ ones l + bitN b
-unfolding ones
-ones-append [] b = omega arith
-ones-append (a ∷ l) b = omega (arith, ones-append l b)
+-- the character in front, w being the number of all its bits
+pub char-is : (d : ℕ) (l : List Bool) (w : ℕ) (t : Bool) → suc d ≤ length l → number (take (suc d) l) ≡ w → oddOnes w ≡ t
+    → demand t 10 (gives (w % 2 ^ d)) ≡ next d l
+unfolding next
+char-is d l w t h e o =
+    let p : odd (take (suc d) l) ≡ t = ap (λ (m : ℕ). eqb (m % 2) 1) (sym (ones-number (take (suc d) l)) ∙ ap Count.ones e) ∙ o in
+    let n : number (take d l) ≡ w % 2 ^ d =
+    ap number (sym (take-take d (suc d) l (omega arith))) ∙ number-take d (take (suc d) l) ∙ ap (λ (m : ℕ). m % 2 ^ d) e in
+    rw (le-leb (suc d) (length l) h, p, n)
 
 module _ (v : Bool) (s : List ℕ) (c p d : ℕ) (at-most : p ≤ c) where
   left : length (drop p (stream v s c)) ≡ c - p
@@ -41,16 +46,9 @@ module _ (v : Bool) (s : List ℕ) (c p d : ℕ) (at-most : p ≤ c) where
   unfolding next
   next-cut h = rw (lt-leb (suc d) (length (drop p (stream v s c))) (rw left (omega arith)))
 
-  -- n is the data bits' number and b the parity bit
-  pub next-is : d < c - p → (n b : ℕ) (t : Bool) → n ≡ number (part (stream v s c) p d) → b ≡ bitN (getD (stream v s c) (p + d) false)
-      → eqb ((Count.ones n + b) % 2) 1 ≡ t → demand t 10 (gives n) ≡ next d (drop p (stream v s c))
-  unfolding next
-  next-is h n b t en eb et =
-      let q : d < length (drop p (stream v s c)) = rw left h in
-      let o : ones (take (suc d) (drop p (stream v s c))) ≡ Count.ones n + b =
-      ap ones (take-suc (drop p (stream v s c)) d false q) ∙ ones-append _ _
-      ∙ ap₂ _+_ (sym (ones-number _) ∙ ap Count.ones (sym en)) (ap bitN (getD-drop p _ d false) ∙ sym eb) in
-      rw (le-leb (suc d) (length (drop p (stream v s c))) q, o, et, ← en)
+  pub next-is : d < c - p → (w : ℕ) (t : Bool) → w ≡ number (part (stream v s c) p (d + 1)) → oddOnes w ≡ t
+      → demand t 10 (gives (w % 2 ^ d)) ≡ next d (drop p (stream v s c))
+  next-is h w t e o = char-is d (drop p (stream v s c)) w t (rw left h) (sym (rw add-one at e)) o
 
 -- a character that is there has all its bits, an odd count of ones among them, and a small number
 module _ (d : ℕ) (s : List Bool) (n : ℕ) (found : next d s ≡ gives n) where

@@ -12,9 +12,9 @@ use lib.Bits.{bitXor, differ, xor-shr, xor-step}
 use lib.Dec.{eqb, eqb→eq}
 use borrow.Author.Tests.{eq-eqb, ne-eqb}
 use Rattle.text.proofs.Below.{allBelow, below}
-use Rattle.bits.specs.Stream.{bitAt, isOne, bitN, bitsFrom, stream}
+use Rattle.stream.specs.Stream.{bitAt, isOne, bitN, bitsFrom, stream}
 use Rattle.bits.specs.Flip.{flipAt, flipBit, Reverses}
-use Rattle.bits.proofs.Streams.{length-bitsFrom, getD-bitsFrom, getD-reverse}
+use Rattle.stream.proofs.Streams.{length-bitsFrom, getD-bitsFrom, getD-reverse}
 
 -- the bits of 2 ^ k, at the places of a byte
 right : ℕ → ℕ → Bool

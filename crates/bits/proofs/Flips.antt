@@ -13,7 +13,7 @@ use lib.Bits.{bitXor}
 use borrow.Author.Tests.{eqb-true}
 use Rattle.reasons.specs.Reasons.{Outcome, gives, demand, andThen}
 use Rattle.reasons.proofs.Laws.{gives-refuses, passed, went-on}
-use Rattle.bits.specs.Stream.{number, ones, odd}
+use Rattle.stream.specs.Stream.{number, ones, odd}
 use Rattle.bits.specs.Reading.{Letters, Format, next, allZero, finish, body, skip, begins, readOne}
 use Rattle.bits.specs.Flip.{flipAt, Proper}
 use Rattle.bits.proofs.Chars.{char-long, char-odd}

@@ -1,6 +1,6 @@
 -- The laws on readings, for every proper format. Assumes nothing.
 use mathlib.Core.Path.{_≡_, sym, ap, _∙_}
-use mathlib.Core.Bool.{Bool, true, false, _&&_}
+use mathlib.Core.Bool.{Bool, true, false, _&&_, false≢true}
 use mathlib.Core.List.{List, reverse, reverse-reverse}
 use Prim.Native.Nat.{ℕ, _-_, _*_, _≤_, _<_}
 use native.Mathlib.Omega.{arith}
@@ -10,12 +10,14 @@ use borrow.Author.Tests.{leb-true}
 use Rattle.text.proofs.Tests.{both-true}
 use Rattle.reasons.specs.Reasons.{numberOf, Outcome, gives, refuses}
 use Rattle.reasons.proofs.Laws.{gives-refuses, refuses-one, passed}
-use Rattle.bits.specs.Stream.{stream}
-use Rattle.bits.specs.Reading.{Format, Track, forwardOf, reversedOf, readOne, choose, readEither, readRule, said}
+use Rattle.stream.specs.Stream.{stream}
+use Rattle.bits.specs.Reading.{Format, Track, forwardOf, reversedOf, readOne, choose, readEither, readRule, said, Reads}
+use Rattle.bits.specs.Shape.{formatOf, Sound, plain}
 use Rattle.bits.specs.Flip.{flipAt, flipBit, Reverses, Proper}
+use Rattle.bits.specs.declared.Shape.{Shape}
 use Rattle.bits.specs.declared.Read.{Read}
 use Rattle.bits.specs.declared.Read.the-variants.{Forward, Reversed, Refused}
-use Rattle.bits.proofs.Streams.{length-stream}
+use Rattle.stream.proofs.Streams.{length-stream}
 use Rattle.bits.proofs.Rules.{rule-reads}
 use Rattle.bits.proofs.Lengths.{either-length}
 use Rattle.bits.proofs.Flips.{stream-flip}
@@ -36,6 +38,31 @@ said-one (Forward n) (Refused b) e = gives-refuses (false, n) (numberOf b) e
 said-one (Reversed n) (Refused b) e = gives-refuses (true, n) (numberOf b) e
 said-one (Refused a) (Forward n) e = gives-refuses (false, n) (numberOf a) (sym e)
 said-one (Refused a) (Reversed n) e = gives-refuses (true, n) (numberOf a) (sym e)
+
+-- any two outcomes that a reading's promise allows are equal: the answer and every lent byte
+pub reads-one : (f : Format) (s : List ℕ) (bits : ℕ) (out : List ℕ) (r q : Read) (x y : List ℕ)
+    → Reads f s bits out r x → Reads f s bits out q y → (r ≡ q) × (x ≡ y)
+reads-one f s bits out r q x y a b = (said-one r q (a .0 ∙ sym (b .0)), a .1 ∙ sym (b .1))
+
+-- what a shape may be, it may be without looks of two characters
+pub plain-sound : (h : Shape) → Sound h → Sound (plain h)
+plain-sound h ok =
+    record {
+      any = ok .any;
+      few = ok .few;
+      low = ok .low;
+      short = ok .short;
+      some = ok .some;
+      start-fits = ok .start-fits;
+      four = λ e. absurd (false≢true e);
+      first-is = ok .first-is;
+    }
+
+-- "The faster reading must give the same answer, number and output bytes as the plain one for every stream": what read_either promises of
+-- a shape, and of the same track read one character after another
+pub same-as-plain : (h : Shape) (s : List ℕ) (bits : ℕ) (out : List ℕ) (r q : Read) (x y : List ℕ)
+    → Reads (formatOf h) s bits out r x → Reads (formatOf (plain h)) s bits out q y → (r ≡ q) × (x ≡ y)
+same-as-plain h = reads-one (formatOf h)
 
 -- where a call gives a value neither 1 nor 7 applies
 pub record Taken (f : Format) (s : List ℕ) (count n : ℕ) (t : Track) : Type 0 where

@@ -1,7 +1,7 @@
-pub mod Streams
 pub mod Walks
 pub mod Chars
 pub mod Bodies
+pub mod Pairs
 pub mod Starts
 pub mod Rules
 pub mod Flips

@@ -9,7 +9,7 @@ use lib.Dec.{leb, eqb}
 use lib.ListN.{length, take, drop}
 use Rattle.reasons.specs.Reasons.{Outcome, gives, refuses}
 use Rattle.reasons.proofs.Laws.{First, Either, never, refuses-exactly, either-exactly, gives-refuses, refused-number}
-use Rattle.bits.specs.Stream.{number, odd, stream}
+use Rattle.stream.specs.Stream.{number, odd, stream}
 use Rattle.bits.specs.Reading.{Letters, Format, Track, next, allZero, finish, body, skip, begins, readOne, choose, readEither, readRule}
 
 module _ (d : ℕ) (s : List Bool) (n : ℕ) where

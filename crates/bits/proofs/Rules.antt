@@ -11,7 +11,7 @@ use Rattle.text.specs.Numbers.{put}
 use Rattle.reasons.specs.Reasons.{numberOf, Outcome, gives, refuses}
 use Rattle.reasons.specs.declared.Reason.{Reason}
 use Rattle.reasons.proofs.Laws.{gives-refuses}
-use Rattle.bits.specs.Stream.{stream}
+use Rattle.stream.specs.Stream.{stream}
 use Rattle.bits.specs.Reading.{Format, Track, readOne, choose, readEither, readRule, bytesAfter, readBytes, said, counted}
 use Rattle.bits.specs.Shape.{WayRead}
 use Rattle.bits.specs.declared.Found.{Found}

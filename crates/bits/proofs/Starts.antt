@@ -2,29 +2,19 @@
 use mathlib.Core.Path.{_≡_, refl, sym, ap, _∙_}
 use mathlib.Core.Bool.{Bool, true, false}
 use mathlib.Core.List.{List, [], _∷_}
-use Prim.Native.Nat.{ℕ, zero, suc, _+_, _-_, _*_, _/_, _%_, _^_, _≤_, _<_}
+use Prim.Native.Nat.{ℕ, suc, _+_, _-_, _≤_, _<_}
 use native.Mathlib.Omega.{arith}
 use native.Mathlib.Numerals.{add-one}
-use native.Mathlib.Nat.{not-suc-le-zero, le-of-suc-le-suc, pow-suc}
+use native.Mathlib.Nat.{not-suc-le-zero, le-of-suc-le-suc, mod-eq-of-lt}
 use lib.ListN.{length, getD, take, drop, length-drop}
 use lib.Seq.{drop-drop, drop-cons}
 use Rattle.reasons.specs.Reasons.{refuses, demand}
-use Rattle.bits.specs.Stream.{number, stream}
+use Rattle.stream.specs.Stream.{number, stream, bitsOf}
 use Rattle.bits.specs.Reading.{begins, skip, body, readOne}
-use Rattle.bits.specs.Shape.{bitsOf, lettersOf, formatOf, Sound}
+use Rattle.bits.specs.Shape.{lettersOf, formatOf, Sound}
 use Rattle.bits.specs.declared.Shape.{Shape}
-use Rattle.bits.proofs.Streams.{bitN-isOne, length-stream}
-
-length-bitsOf : (k n : ℕ) → length (bitsOf k n) ≡ k
-length-bitsOf zero n = refl
-length-bitsOf (suc k) n = ap suc (length-bitsOf k (n / 2))
-
-number-bitsOf : (k n : ℕ) → n < 2 ^ k → number (bitsOf k n) ≡ n
-unfolding number
-number-bitsOf zero n h = omega arith
-number-bitsOf (suc k) n h =
-    let p : n < 2 ^ k * 2 = rw pow-suc at h in
-    omega (arith, bitN-isOne (n % 2) (omega arith), number-bitsOf k (n / 2) (omega arith))
+use Rattle.stream.proofs.Streams.{length-stream}
+use Rattle.stream.proofs.Numbers.{length-bitsOf, number-bitsOf}
 
 begins-short : (p s : List Bool) → length s < length p → begins p s ≡ false
 unfolding begins
@@ -86,6 +76,9 @@ module _ (h : Shape) (ok : Sound h) (v : Bool) (s : List ℕ) (c p : ℕ) (skipp
     unfolding begins
     rest = rw one-first
 
+    start-is : number (bitsOf (h .size) (h .start)) ≡ h .start
+    start-is = number-bitsOf (h .size) (h .start) ∙ mod-eq-of-lt (ok .start-fits)
+
     long : length (bitsOf (h .size) (h .start)) ≤ length (drop (p + 1) (stream v s c))
     long = rw (length-bitsOf, left (p + 1)) (omega arith)
 
@@ -95,10 +88,10 @@ module _ (h : Shape) (ok : Sound h) (v : Bool) (s : List ℕ) (c p : ℕ) (skipp
     pub start-other : (x ≡ h .start → ⊥) → refuses 8 ≡ readOne (formatOf h) (stream v s c)
     start-other o =
         by-test false (rest ∙ begins-ne (bitsOf (h .size) (h .start)) (drop (p + 1) (stream v s c)) long
-        (λ q. o (sym after-first ∙ q ∙ number-bitsOf (h .size) (h .start) (ok .start-fits))))
+        (λ q. o (sym after-first ∙ q ∙ start-is)))
 
     pub start-found : x ≡ h .start
         → body (lettersOf (h .size) (h .last) (h .base)) (h .limit - 1) (h .first) [] (drop (p + 1 + h .size) (stream v s c)) ≡ readOne (formatOf h) (stream v s c)
     start-found o =
         by-test true (rest ∙ begins-eq (bitsOf (h .size) (h .start)) (drop (p + 1) (stream v s c)) long
-        (after-first ∙ o ∙ sym (number-bitsOf (h .size) (h .start) (ok .start-fits))))
+        (after-first ∙ o ∙ sym (start-is)))

@@ -1,53 +1,65 @@
--- One turn of the loops that walk along the bits of a stream. Assumes nothing.
-use mathlib.Core.Path.{_≡_, refl, sym, ap, _∙_}
+-- Zeros skipped, some bits at a time: up to the first one bit, or past them.
+use mathlib.Core.Path.{_≡_, refl, sym, ap, ap₂, _∙_}
 use mathlib.Core.Bool.{Bool, true, false}
-use mathlib.Core.List.{List, [], _∷_}
-use Prim.Native.Nat.{ℕ, _+_, _-_, _≤_, _<_}
+use mathlib.Core.List.{List, [], _∷_, _++_}
+use Prim.Native.Nat.{ℕ, zero, suc, _+_, _-_, _*_, _/_, _%_, _≤_, _<_}
 use native.Mathlib.Omega.{arith}
-use native.Mathlib.Numerals.{add-one}
+use native.Mathlib.Nat.{not-suc-le-zero, le-of-suc-le-suc}
 use native.Mathlib.Decide.{decLt}
+use lib.Count.{under, trailingZeros}
 use lib.Dec.{eqb}
-use lib.ListN.{length, getD, drop, drop-of-length-le, length-drop}
-use lib.Seq.{drop-cons}
+use lib.ListN.{length, drop, drop-of-length-le, length-drop, take-append-drop}
+use lib.Seq.{drop-drop}
 use borrow.Author.Tests.{eq-eqb, ne-eqb}
-use Rattle.bits.specs.Stream.{bitN, stream}
-use Rattle.bits.proofs.Streams.{length-stream}
+use Rattle.stream.specs.Stream.{stream, number}
+use Rattle.stream.proofs.Streams.{length-stream, part, length-part, stream-fits}
+use Rattle.stream.proofs.Numbers.{lowest, above}
 use Rattle.bits.specs.Reading.{skip, allZero}
 
-pub bit-one : (b : Bool) → bitN b ≡ 1 → b ≡ true
-bit-one true e = refl
-bit-one false e = absurd (omega arith)
+-- bits whose number is 0 are zeros
+skips : (l rest : List Bool) → number l ≡ 0 → skip (l ++ rest) ≡ skip rest
+unfolding skip number
+skips [] rest e = refl
+skips (false ∷ l) rest e = skips l rest (omega arith)
+skips (true ∷ l) rest e = absurd {0} (omega arith)
 
-pub bit-zero : (b : Bool) → (bitN b ≡ 1 → ⊥) → b ≡ false
-bit-zero true e = absurd (e refl)
-bit-zero false e = refl
+-- others have their first one where their number's lowest one stands
+first-in : (l rest : List Bool) (k : ℕ) → length l ≤ k → (number l ≡ 0 → ⊥)
+    → (skip (l ++ rest) ≡ drop (trailingZeros k (number l)) (l ++ rest)) × (trailingZeros k (number l) < length l)
+unfolding skip number trailingZeros
+first-in [] rest k h o = absurd (o refl)
+first-in (b ∷ l) rest zero h o = absurd (not-suc-le-zero h)
+first-in (false ∷ l) rest (suc k) h o =
+    let i = first-in l rest k (le-of-suc-le-suc h) (λ e. o (omega arith)) in
+    let t : under ((0 + 2 * number l) % 2) (trailingZeros k ((0 + 2 * number l) / 2)) ≡ suc (trailingZeros k (number l)) =
+    ap₂ (λ (x y : ℕ). under x (trailingZeros k y)) (lowest false l) (above false l) in
+    rw t (i .0, omega (arith, i .1))
+first-in (true ∷ l) rest (suc k) h o =
+    let t : under ((1 + 2 * number l) % 2) (trailingZeros k ((1 + 2 * number l) / 2)) ≡ 0 =
+    ap (λ (x : ℕ). under x (trailingZeros k ((1 + 2 * number l) / 2))) (lowest true l) in
+    rw t (refl, omega arith)
 
-module _ (v : Bool) (s : List ℕ) (n p : ℕ) where
-  split : (b : Bool) → p < n → getD (stream v s n) p false ≡ b → drop p (stream v s n) ≡ b ∷ drop (p + 1) (stream v s n)
-  split b h e =
-      let q : p < length (stream v s n) = rw length-stream h in
-      rw (add-one, drop-cons (stream v s n) p false q, e)
-
-  pub at-one : (r : ℕ) → p < n → r ≡ bitN (getD (stream v s n) p false) → r ≡ 1 → drop p (stream v s n) ≡ true ∷ drop (p + 1) (stream v s n)
-  at-one r h e o = split true h (bit-one (getD (stream v s n) p false) (sym e ∙ o))
-
-  pub at-zero : (r : ℕ) → p < n → r ≡ bitN (getD (stream v s n) p false) → (r ≡ 1 → ⊥) → drop p (stream v s n) ≡ false ∷ drop (p + 1) (stream v s n)
-  at-zero r h e o = split false h (bit-zero (getD (stream v s n) p false) (λ w. o (e ∙ w)))
-
-  pub at-end : n ≤ p → drop p (stream v s n) ≡ []
-  at-end h = drop-of-length-le (stream v s n) {i = p} (rw length-stream h)
-
-  pub skip-one : (r : ℕ) → p < n → r ≡ bitN (getD (stream v s n) p false) → r ≡ 1 → skip (drop p (stream v s n)) ≡ drop p (stream v s n)
+module _ (v : Bool) (s : List ℕ) (c p : ℕ) where
+  pub skip-end : c ≤ p → skip (drop p (stream v s c)) ≡ drop p (stream v s c)
   unfolding skip
-  skip-one r h e o = rw (at-one r h e o)
+  skip-end h = rw (drop-of-length-le (stream v s c) {i = p} (rw length-stream h))
 
-  pub skip-zero : (r : ℕ) → p < n → r ≡ bitN (getD (stream v s n) p false) → (r ≡ 1 → ⊥) → skip (drop p (stream v s n)) ≡ skip (drop (p + 1) (stream v s n))
-  unfolding skip
-  skip-zero r h e o = rw (at-zero r h e o)
+  module _ (n w : ℕ) (fits : p + n ≤ c) (is : w ≡ number (part (stream v s c) p n)) where
+    split : drop p (stream v s c) ≡ part (stream v s c) p n ++ drop (p + n) (stream v s c)
+    split = sym (ap (λ (l : List Bool). part (stream v s c) p n ++ l) (sym (drop-drop n p (stream v s c))) ∙ take-append-drop n (drop p (stream v s c)))
 
-  pub skip-end : n ≤ p → skip (drop p (stream v s n)) ≡ drop p (stream v s n)
-  unfolding skip
-  skip-end h = rw (at-end h)
+    pub skip-past : w ≡ 0 → skip (drop p (stream v s c)) ≡ skip (drop (p + n) (stream v s c))
+    skip-past e = ap skip split ∙ skips (part (stream v s c) p n) (drop (p + n) (stream v s c)) (sym is ∙ e)
+
+    pub skip-to : n ≤ 8 → (w ≡ 0 → ⊥)
+        → (skip (drop p (stream v s c)) ≡ drop (p + trailingZeros 8 w) (stream v s c)) × (p + trailingZeros 8 w ≤ c)
+    skip-to h o =
+        let l = length-part (stream v s c) p n (stream-fits v s c p n fits) in
+        let t = first-in (part (stream v s c) p n) (drop (p + n) (stream v s c)) 8 (rw l h) (λ e. o (is ∙ e)) in
+        let z : trailingZeros 8 w ≡ trailingZeros 8 (number (part (stream v s c) p n)) = ap (trailingZeros 8) is in (
+          ap skip split ∙ t .0 ∙ ap₂ (λ (j : ℕ) (m : List Bool). drop j m) (sym z) (sym split) ∙ drop-drop (trailingZeros 8 w) p (stream v s c),
+          omega (arith, rw l at (t .1)),
+        )
 
 -- bits are all zero where skipping zeros leaves none
 skips-all : (b : List Bool) → eqb (length (skip b)) 0 ≡ allZero b
@@ -64,7 +76,8 @@ none-left n r h = by (decLt r n)
     by (no l) = eq-eqb r n (omega arith) ∙ sym (eq-eqb (n - r) 0 (omega arith))
 
 -- the first one bit is behind the last bit exactly where all are zero
-pub zeros-told : (v : Bool) (s : List ℕ) (n p r : ℕ) → skip (drop p (stream v s n)) ≡ drop r (stream v s n) → r ≤ n → eqb r n ≡ allZero (drop p (stream v s n))
+pub zeros-told : (v : Bool) (s : List ℕ) (n p r : ℕ) → skip (drop p (stream v s n)) ≡ drop r (stream v s n) → r ≤ n
+    → eqb r n ≡ allZero (drop p (stream v s n))
 zeros-told v s n p r e h =
     let l : length (skip (drop p (stream v s n))) ≡ n - r = rw (e, length-drop, length-stream) in
     none-left n r h ∙ sym (ap (λ (m : ℕ). eqb m 0) l) ∙ skips-all (drop p (stream v s n))

@@ -5,7 +5,7 @@ use mathlib.Core.List.{List, [], _∷_, _++_}
 use Prim.Native.Nat.{ℕ, zero, suc, _/_, _%_, _^_, _-_, _<_}
 use lib.ListN.{length, getD, set}
 use lib.Bits.{bitXor}
-use Rattle.bits.specs.Stream.{bitAt}
+use Rattle.stream.specs.Stream.{bitAt}
 use Rattle.bits.specs.Reading.{Format, begins, skip}
 
 -- the stream with bit i flipped

@@ -1,4 +1,3 @@
-pub mod Stream
 pub mod Reading
 pub mod Shape
 pub mod Flip

@@ -1,4 +1,5 @@
 -- Reading a track from its bits, one way and either way round. What differs between tracks is a format. Assumes nothing.
+use mathlib.Core.Path.{_≡_}
 use mathlib.Core.Bool.{Bool, true, false, _&&_, not, cond}
 use mathlib.Core.List.{List, [], _∷_, _++_, reverse}
 use Prim.Native.Nat.{ℕ, zero, suc, _+_, _-_, _*_}
@@ -7,7 +8,7 @@ use lib.Dec.{leb, eqb}
 use lib.Bits.{bitXor}
 use Rattle.text.specs.Numbers.{put}
 use Rattle.reasons.specs.Reasons.{numberOf, Outcome, gives, refuses, demand, andThen, after}
-use Rattle.bits.specs.Stream.{number, odd, stream}
+use Rattle.stream.specs.Stream.{number, odd, stream}
 use Rattle.bits.specs.declared.Read.{Read}
 use Rattle.bits.specs.declared.Read.the-variants.{Forward, Reversed, Refused}
 
@@ -115,3 +116,7 @@ said (Refused r) = refuses (numberOf r)
 -- "with their count and the direction"
 abbrev pub counted : Outcome Track → Outcome (Bool × ℕ)
 counted o = andThen o (λ t. gives (t .reversed, length (t .chars)))
+
+-- what a reading either way round promises: its answer, and the output after it
+abbrev pub Reads : Format → List ℕ → ℕ → List ℕ → Read → List ℕ → Type 0
+Reads f s bits old r new = (said r ≡ counted (readRule f s bits (length old))) × (new ≡ readBytes f s bits old)

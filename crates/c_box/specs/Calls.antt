@@ -1,7 +1,7 @@
 -- What each function on the journal, the swipe and the host's ledger allows, in the header's order. Assumes nothing.
 use Prim.Native.Nat.{ℕ}
 use mathlib.Core.List.{List}
-use Rattle.bits.specs.Stream.{bitN}
+use Rattle.stream.specs.Stream.{bitN}
 use Rattle.slots.specs.Views.{Seen}
 use Rattle.journal.specs.Rules.{Books, Releases, Finds, TellsOf, saidBooked, saidReleased, saidShown, saidTold}
 use Rattle.journal.specs.Survey.{Surveys, saidSurveyed}

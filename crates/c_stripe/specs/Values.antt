@@ -2,7 +2,7 @@
 use Prim.Native.Nat.{ℕ}
 use mathlib.Core.Bool.{Bool}
 use lib.ListN.{length}
-use Rattle.bits.specs.Stream.{bitN}
+use Rattle.stream.specs.Stream.{bitN}
 use Rattle.bits.specs.Reading.{Track}
 use Rattle.bits.specs.declared.Read.{Read}
 use Rattle.bits.specs.declared.Read.the-variants.{Forward, Reversed, Refused}

@@ -2,7 +2,7 @@
 use Prim.Native.Nat.{ℕ, _<_}
 use mathlib.Core.Path.{_≡_}
 use mathlib.Core.List.{List, [], _∷_}
-use Rattle.bits.specs.Stream.{bitN}
+use Rattle.stream.specs.Stream.{bitN}
 use Rattle.slots.specs.Journal.{SameButClocks}
 use Rattle.journal.specs.Rules.{saidBooked, saidReleased, saidShown, saidTold}
 use Rattle.journal.specs.Survey.{saidSurveyed}

@@ -4,7 +4,7 @@ use mathlib.Core.Bool.{Bool, true, false}
 use mathlib.Core.List.{List, [], _∷_, reverse}
 use Rattle.text.specs.Bytes.{bytesOf}
 use Rattle.reasons.specs.Reasons.{gives}
-use Rattle.bits.specs.Stream.{number, ones}
+use Rattle.stream.specs.Stream.{number, ones}
 use Rattle.bits.specs.Reading.{next, allZero, finish, body, skip, begins, readOne, forwardOf, choose, readEither}
 use Rattle.track1.specs.Track1.{track1}
 

@@ -5,12 +5,12 @@ use mathlib.Core.List.{List, [], _∷_}
 use Prim.Native.Nat.{ℕ, _*_, _≤_, _<_}
 use lib.ListN.{length}
 use Rattle.reasons.specs.Reasons.{gives, refuses}
-use Rattle.bits.specs.Stream.{stream}
-use Rattle.bits.specs.Reading.{Track, forwardOf, reversedOf, skip, begins, readOne, said, counted}
+use Rattle.stream.specs.Stream.{stream}
+use Rattle.bits.specs.Reading.{Track, forwardOf, reversedOf, skip, begins, readOne, Reads}
 use Rattle.bits.specs.Flip.{flipBit, Reverses, Proper}
 use Rattle.bits.specs.declared.Read.{Read}
-use Rattle.bits.proofs.Laws.{said-one, chars-fit, flip-found-in-bytes, reversal-in-bytes}
-use Rattle.track1.specs.Track1.{track1, track1Rule, track1Bytes}
+use Rattle.bits.proofs.Laws.{reads-one, chars-fit, flip-found-in-bytes, reversal-in-bytes}
+use Rattle.track1.specs.Track1.{track1, track1Rule}
 
 pub proper1 : Proper track1
 unfolding begins skip
@@ -18,9 +18,8 @@ proper1 = record { tail = false ∷ true ∷ false ∷ false ∷ false ∷ true 
 
 -- any two outcomes that the promise of read allows are equal: the answer and every lent byte
 pub read-one : (s : List ℕ) (bits : ℕ) (out : List ℕ) (r q : Read) (x y : List ℕ)
-    → (said r ≡ counted (track1Rule s bits (length out))) × (x ≡ track1Bytes s bits out)
-    → (said q ≡ counted (track1Rule s bits (length out))) × (y ≡ track1Bytes s bits out) → (r ≡ q) × (x ≡ y)
-read-one s bits out r q x y a b = (said-one r q (a .0 ∙ sym (b .0)), a .1 ∙ sym (b .1))
+    → Reads track1 s bits out r x → Reads track1 s bits out q y → (r ≡ q) × (x ≡ y)
+read-one = reads-one track1
 
 -- at most 76 characters stand between the sentinels
 pub at-most-76 : (s : List ℕ) (bits n : ℕ) (t : Track) → track1Rule s bits n ≡ gives t → length (t .chars) ≤ 76

@@ -12,11 +12,11 @@ use lib.Bits.{bitXor}
 use borrow.Author.Tests.{le-leb, lt-leb, eqb-true}
 use Rattle.reasons.specs.Reasons.{Outcome, gives, refuses}
 use Rattle.reasons.proofs.Laws.{gives-refuses, passed, went-on}
-use Rattle.bits.specs.Stream.{bitN, stream, number, ones, odd}
+use Rattle.stream.specs.Stream.{bitN, stream, number, ones, odd}
 use Rattle.bits.specs.Reading.{Letters, Track, forwardOf, reversedOf, next, allZero, finish, body, skip, begins, readOne, choose, readEither}
 use Rattle.bits.specs.Flip.{flipAt, flipBit, Reverses}
-use Rattle.bits.proofs.Streams.{bitN-le, length-stream}
-use Rattle.bits.proofs.Walks.{bit-one, bit-zero}
+use Rattle.stream.proofs.Streams.{length-stream}
+use Rattle.stream.proofs.Numbers.{bitN-le, bit-one, bit-zero}
 use Rattle.bits.proofs.Chars.{char-long, char-odd, char-number}
 use Rattle.bits.proofs.Flips.{take-early, odd-flip, begins-split, start-there, body-there, zero-first, stream-flip}
 use Rattle.bits.proofs.FlipBytes.{flipped-stream, reversed-stream}

@@ -7,7 +7,7 @@ use native.Mathlib.Omega.{arith}
 use lib.ListN.{drop}
 use lib.Seq.{drop-drop}
 use Rattle.reasons.specs.Reasons.{gives, demand}
-use Rattle.bits.specs.Stream.{stream}
+use Rattle.stream.specs.Stream.{stream}
 use Rattle.bits.specs.Reading.{next, finish}
 use Rattle.bits.specs.Shape.{saidChar}
 use Rattle.bits.proofs.Chars.{char-fits, close-refused, close-wrong, close-right}

@@ -1,10 +1,13 @@
 use borrow.Author.Needs.{needs}
-use mathlib.Core.Path.{_≡_, sym, _∙_}
+use Prim.Native.Nat.{ℕ, _%_, _^_}
+use mathlib.Core.Path.{_≡_, sym, ap, _∙_}
 use mathlib.Core.Bool.{Bool, true, false}
 use native.Mathlib.Omega.{arith}
 use lib.ListN.{drop}
+use lib.Pow.{pow-pos}
 use Rattle.reasons.specs.Reasons.{gives, demand}
-use Rattle.bits.specs.Stream.{stream}
+use Rattle.stream.specs.Stream.{stream}
+use Rattle.stream.proofs.Numbers.{power}
 use Rattle.bits.specs.Reading.{next}
 use Rattle.bits.proofs.Chars.{next-cut, next-is}
 use Rattle.bits.proofs.next_char.Statement.{statement}
@@ -12,14 +15,14 @@ use Rattle.bits.proofs.next_char.Tie as tie
 
 -- the character whose parity was asked for
 asked : (c : tie.After-is-odd) (t : Bool) → c .is-odd .result ≡ t →
-    let a = c .before .before .before .before .before .args in
-    demand t 10 (gives (c .before .before .symbol .result)) ≡ next (a .size) (drop (a .at) (stream (a .reversed) (a .s .now) (a .count)))
-asked c t e =
-    let b = c .before in
-    let n = b .before in
+    let n = c .before in
     let a = n .before .before .before .args in
-    next-is (a .reversed) (a .s .now) (a .count) (a .at) (a .size) (omega arith) (n .before .if1 .left) (n .symbol .result) (b .bit-at .result) t
-    (n .symbol .ensures) (b .bit-at .ensures .0) (sym (c .is-odd .ensures) ∙ e)
+    demand t 10 (gives (n .number-at .result % 2 ^ a .size)) ≡ next (a .size) (drop (a .at) (stream (a .reversed) (a .s .now) (a .count)))
+asked c t e =
+    let n = c .before in
+    let a = n .before .before .before .args in
+    next-is (a .reversed) (a .s .now) (a .count) (a .at) (a .size) (omega arith) (n .before .if1 .left) (n .number-at .result) t
+    (n .number-at .ensures .0) (sym (c .is-odd .ensures) ∙ e)
 
 sub-if1 : tie.Need-sub-if1
 sub-if1 c = search needs
@@ -29,20 +32,31 @@ returns c =
     let a = c .before .before .args in
     next-cut (a .reversed) (a .s .now) (a .count) (a .at) (a .size) (omega arith) (c .if1 .taken)
 
-symbol-requires : tie.Need-symbol-requires
-symbol-requires c κs = search needs
+add-number-at : tie.Need-add-number-at
+add-number-at c = search needs
 
-add-bit-at : tie.Need-add-bit-at
-add-bit-at c = search needs
-
-bit-at-requires : tie.Need-bit-at-requires
-bit-at-requires c κs = search needs
+number-at-requires : tie.Need-number-at-requires
+number-at-requires c κs = search needs
 
 is-odd-requires : tie.Need-is-odd-requires
 is-odd-requires c κs = search needs
 
+cast-n : tie.Need-cast-n
+cast-n c = search needs
+
+shl-n : tie.Need-shl-n
+shl-n c = search needs
+
+rem-n : tie.Need-rem-n
+rem-n c =
+    let k = c .before .before .before .before .before .args .size in
+    rw (power k 8 (omega arith)) (pow-pos k)
+
 returns-2 : tie.Need-returns-2
-returns-2 c = asked (c .before) true (c .if2 .taken)
+returns-2 c =
+    let n = c .before .before in
+    ap (λ (m : ℕ). gives (n .number-at .result % m)) (power (n .before .before .before .args .size) 8 (omega arith))
+    ∙ asked (c .before) true (c .if2 .taken)
 
 returns-3 : tie.Need-returns-3
 returns-3 c = asked (c .before) false (c .if2 .left)
@@ -53,9 +67,11 @@ next-char-spec =
     (tie.spec
     sub-if1
     returns
-    symbol-requires
-    add-bit-at
-    bit-at-requires
+    add-number-at
+    number-at-requires
     is-odd-requires
+    cast-n
+    shl-n
+    rem-n
     returns-2
     returns-3)

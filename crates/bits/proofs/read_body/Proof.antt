@@ -1,14 +1,12 @@
 use borrow.Author.Needs.{needs}
 use Prim.Native.Nat.{_+_, _-_, _≤_, _<_}
 use native.Mathlib.Omega.{arith}
-use native.Mathlib.Nat.{sub-zero}
 use mathlib.Core.Path.{_≡_, refl, sym, ap, _∙_}
-use mathlib.Core.List.{[]}
 use lib.ListN.{length, take, drop, length-set}
 use Rattle.reasons.specs.Reasons.{gives}
-use Rattle.bits.specs.Stream.{stream}
+use Rattle.stream.specs.Stream.{stream}
 use Rattle.bits.specs.Reading.{next, body}
-use Rattle.bits.specs.Shape.{lettersOf, saidChar}
+use Rattle.bits.specs.Shape.{lettersOf, saidChar, bodyOf, restOf}
 use Rattle.bits.proofs.Chars.{char-fits, char-lt}
 use Rattle.bits.proofs.Bodies.{body-none, body-refused, ends, turn, byte-fits}
 use Rattle.bits.proofs.read_body.Statement.{statement}
@@ -16,28 +14,40 @@ use Rattle.bits.proofs.read_body.Tie as tie
 
 abbrev Inv-loop : tie.InvT-loop
 Inv-loop s count reversed from out₀ size last base more lrc₀ at₀ len₀ out lrc at len =
-    (body (lettersOf size last base) more lrc₀ [] (drop from (stream reversed s count))
+    (body (lettersOf size last base) (more - len₀) lrc₀ (take len₀ out₀) (drop at₀ (stream reversed s count))
     ≡ body (lettersOf size last base) (more - len) lrc (take len out) (drop at (stream reversed s count)))
     × (at ≤ count) × (len ≤ more) × (length out ≡ length out₀)
 
 abbrev μ-loop : tie.MeasureT-loop
 μ-loop s count reversed from out₀ size last base more lrc₀ at₀ len₀ out lrc at len = more - len
 
+-- where the function began, as seen from the loop
+abbrev begun : tie.At-loop Inv-loop μ-loop → tie.Start Inv-loop μ-loop
+begun c = c .before .before .before .before .before .before .before .before
+
+-- the rest from here gives the whole: what was read two at a look, and the loop so far
+so-far : (c : tie.At-loop Inv-loop μ-loop) →
+    let l = c .loop in
+    let a = begun c .args in
+    bodyOf (a .h) (drop (a .from) (stream (a .reversed) (a .s .now) (a .count)))
+    ≡ restOf (a .h) (l .len) (l .lrc) (take (l .len) (l .out)) (drop (l .at) (stream (a .reversed) (a .s .now) (a .count)))
+so-far c = c .before .before .before .by-pairs .ensures .0 ∙ c .loop .inv .0
+
 -- the character found in a turn: its number, that its bits end within the stream, and that its byte is one
 number-is : (c : tie.After-known-told2 Inv-loop μ-loop) →
     let m = c .before .before .before in
-    let a = m .before .before .before .before .before .before .args in
+    let a = begun (m .before .before) .args in
     gives (c .before .c2 .given .0 .0) ≡ next (a .h .size) (drop (m .before .before .loop .at) (stream (a .reversed) (a .s .now) (a .count)))
 number-is c = sym (ap saidChar (c .before .c2 .given .1)) ∙ c .before .before .before .next-char .ensures
 
 fits : (c : tie.After-known-told2 Inv-loop μ-loop) →
     let m = c .before .before .before in
-    let a = m .before .before .before .before .before .before .args in
+    let a = begun (m .before .before) .args in
     (m .before .before .loop .at + a .h .size + 1 ≤ a .count) × (a .h .base + c .before .c2 .given .0 .0 < 256)
 fits c =
     let m = c .before .before .before in
     let l = m .before .before .loop in
-    let b = m .before .before .before .before .before .before in
+    let b = begun (m .before .before) in
     let a = b .args in (
       char-fits (a .reversed) (a .s .now) (a .count) (l .at) (a .h .size) _ (l .inv .1) (sym (number-is c)),
       byte-fits (a .h .size) _ (a .h .base) (b .pre .2 .few) (b .pre .2 .low) (char-lt (a .h .size) _ _ (sym (number-is c))),
@@ -46,8 +56,11 @@ fits c =
 sub-more : tie.Need-sub-more Inv-loop μ-loop
 sub-more c = omega arith
 
+by-pairs-requires : tie.Need-by-pairs-requires Inv-loop μ-loop
+by-pairs-requires c κs = search needs
+
 loop-holds : tie.Need-loop-holds Inv-loop μ-loop
-loop-holds c = (rw sub-zero, omega arith, omega arith, refl)
+loop-holds c = (refl, omega arith, omega arith, refl)
 
 next-char-requires : tie.Need-next-char-requires Inv-loop μ-loop
 next-char-requires c κs = search needs
@@ -62,8 +75,8 @@ returns : tie.Need-returns Inv-loop μ-loop
 returns c =
     let m = c .before .before .before in
     let l = m .before .before .loop in (
-      body-refused _ _ _ _ _ (omega arith) _ (sym (ap saidChar (c .before .c .given .1)) ∙ m .next-char .ensures) ∙ sym (l .inv .0),
-      m .before .before .before .before .before .before .pre .2 .some,
+      body-refused _ _ _ _ _ (omega arith) _ (sym (ap saidChar (c .before .c .given .1)) ∙ m .next-char .ensures) ∙ sym (so-far (m .before .before)),
+      begun (m .before .before) .pre .2 .some,
     )
 
 enum-known-c-2 : tie.Need-enum-known-c-2 Inv-loop μ-loop
@@ -90,11 +103,11 @@ returns-2 c =
     let k = t .before .before in
     let m = k .before .before .before in
     let l = m .before .before .loop in
-    let a = m .before .before .before .before .before .before .args in (
+    let a = begun (m .before .before) .args in (
       c .closed .ensures .0 (l .out) ∙ t .close .ensures (take (l .len) (l .out))
-          ∙ ends (lettersOf (a .h .size) (a .h .last) (a .h .base)) (a .reversed) (a .s .now) (a .count) (l .at) (a .h .limit - 1) (l .len) (l .lrc) _ (l .out)
-          (omega arith) (number-is k) (t .before .if1 .taken)
-          ∙ sym (l .inv .0),
+          ∙ ends (lettersOf (a .h .size) (a .h .last) (a .h .base)) (a .reversed) (a .s .now) (a .count) (l .at) (a .h .limit - 1) (l .len) (l .lrc) _
+          (l .out) (omega arith) (number-is k) (t .before .if1 .taken)
+          ∙ sym (so-far (m .before .before)),
       omega (arith, c .closed .ensures .1),
     )
 
@@ -115,10 +128,10 @@ loop-again c =
     let k = c .before in
     let m = k .before .before .before in
     let l = m .before .before .loop in
-    let a = m .before .before .before .before .before .before .args in (
+    let a = begun (m .before .before) .args in (
       l .inv .0
-          ∙ turn (lettersOf (a .h .size) (a .h .last) (a .h .base)) (a .reversed) (a .s .now) (a .count) (l .at) (a .h .limit - 1) (l .len) (l .lrc) _ (l .out)
-          (omega arith) (number-is k) (omega arith) (c .if1 .left),
+          ∙ turn (lettersOf (a .h .size) (a .h .last) (a .h .base)) (a .reversed) (a .s .now) (a .count) (l .at) (a .h .limit - 1) (l .len) (l .lrc) _
+          (l .out) (omega arith) (number-is k) (slice-write-out c) (c .if1 .left),
       fits k .0,
       omega arith,
       simp length-set (l .inv .3),
@@ -130,7 +143,7 @@ same-length-3 c = search needs
 returns-3 : tie.Need-returns-3 Inv-loop μ-loop
 returns-3 c =
     let l = c .before .loop in
-    (body-none _ _ _ _ _ (omega arith) ∙ sym (l .inv .0), omega arith)
+    (body-none _ _ _ _ _ (omega arith) ∙ sym (so-far (c .before)), omega arith)
 
 pub read-body-spec : {M : Type 1} → statement M
 read-body-spec =
@@ -139,6 +152,7 @@ read-body-spec =
     Inv-loop
     μ-loop
     sub-more
+    by-pairs-requires
     loop-holds
     next-char-requires
     enum-known-c

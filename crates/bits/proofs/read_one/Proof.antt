@@ -4,6 +4,10 @@ use Rattle.bits.proofs.Starts.{start-cut, start-other, start-found}
 use Rattle.bits.proofs.read_one.Statement.{statement}
 use Rattle.bits.proofs.read_one.Tie as tie
 
+-- where the function began, as seen from the place of the first one bit
+abbrev begun : tie.After-first-one → tie.Start
+begun c = c .before .before .before
+
 first-one-requires : tie.Need-first-one-requires
 first-one-requires c κs = search needs
 
@@ -13,23 +17,24 @@ sub-if1 c = search needs
 returns : tie.Need-returns
 returns c =
     let o = c .before in
-    let q = o .before .before .before in
+    let q = begun o in
     let a = q .args in
     (start-cut (a .h) (q .pre .1) (a .reversed) (a .s .now) (a .count) _ (o .first-one .ensures .0) (o .first-one .ensures .1) (c .if1 .taken), q .pre .1 .some)
 
-add-symbol : tie.Need-add-symbol
-add-symbol c = search needs
+add-number-at : tie.Need-add-number-at
+add-number-at c = search needs
 
-symbol-requires : tie.Need-symbol-requires
-symbol-requires c κs = search needs
+number-at-requires : tie.Need-number-at-requires
+number-at-requires c κs = search needs
 
 returns-2 : tie.Need-returns-2
 returns-2 c =
     let y = c .before in
     let o = y .before .before in
-    let q = o .before .before .before in
+    let q = begun o in
     let a = q .args in (
-      start-other (a .h) (q .pre .1) (a .reversed) (a .s .now) (a .count) _ (o .first-one .ensures .0) (o .first-one .ensures .1) (y .before .if1 .left) _ (y .symbol .ensures) (c .if2 .taken),
+      start-other (a .h) (q .pre .1) (a .reversed) (a .s .now) (a .count) _ (o .first-one .ensures .0) (o .first-one .ensures .1) (y .before .if1 .left)
+          _ (y .number-at .ensures .0) (c .if2 .taken),
       q .pre .1 .some,
     )
 
@@ -50,10 +55,11 @@ returns-3 c =
     let r = c .before .before in
     let y = r .before .before .before in
     let o = y .before .before in
-    let q = o .before .before .before in
+    let q = begun o in
     let a = q .args in (
       r .read-body .ensures .0
-          ∙ start-found (a .h) (q .pre .1) (a .reversed) (a .s .now) (a .count) _ (o .first-one .ensures .0) (o .first-one .ensures .1) (y .before .if1 .left) _ (y .symbol .ensures) (r .before .before .if2 .left),
+          ∙ start-found (a .h) (q .pre .1) (a .reversed) (a .s .now) (a .count) _ (o .first-one .ensures .0) (o .first-one .ensures .1) (y .before .if1 .left)
+          _ (y .number-at .ensures .0) (r .before .before .if2 .left),
       r .read-body .ensures .1,
     )
 
@@ -64,8 +70,8 @@ read-one-spec =
     first-one-requires
     sub-if1
     returns
-    add-symbol
-    symbol-requires
+    add-number-at
+    number-at-requires
     returns-2
     add-read-body
     add-read-body-2

@@ -1,14 +1,23 @@
 use borrow.Author.Needs.{needs}
 use native.Mathlib.Omega.{arith}
 use mathlib.Core.Path.{refl}
-use Rattle.bits.specs.Stream.{number}
+use Rattle.stream.specs.Stream.{number}
 use Rattle.track1.proofs.read.Statement.{statement}
 use Rattle.track1.proofs.read.Tie as tie
 
 read-either-requires : tie.Need-read-either-requires
 unfolding number
 read-either-requires c κs =
-    record { few = omega arith; low = omega arith; short = omega arith; some = omega arith; start-fits = omega arith; first-is = refl }
+    record {
+      any = omega arith;
+      few = omega arith;
+      low = omega arith;
+      short = omega arith;
+      some = omega arith;
+      start-fits = omega arith;
+      four = λ e. cc;
+      first-is = refl;
+    }
 
 same-length : tie.Need-same-length
 same-length c = search needs
