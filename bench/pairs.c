@@ -50,15 +50,16 @@ static unsigned next_ten(const struct stream *s)
 }
 
 /* Look by look, up to one with the end or an even parity in it, which is left to the
- * reference: the characters in `out`, how many they are, and their exclusive or in *all.
- * Their parity bits aren't in it; the LRC is compared without. */
+ * reference, as the 39th character is: the characters in `out`, how many they are, and
+ * their exclusive or in *all. Their parity bits aren't in it; the LRC is compared
+ * without. */
 static uint32_t read_by_table(const struct track *t, struct stream *s, uint8_t *out,
                               unsigned *all)
 {
     uint32_t n = 0;
     while (t == &track2 && n + 2 <= t->most && bits_left(s) >= LOOK) {
         unsigned pair = pairs[next_ten(s)], first = pair % 16, second = pair / 16;
-        if (first == END || second >= END)
+        if (first == END || second >= END) /* of 256 the second is 16 */
             break;
         out[n++] = (uint8_t)(t->zero + first);
         out[n++] = (uint8_t)(t->zero + second);

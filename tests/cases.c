@@ -276,7 +276,7 @@ static void add_track(const struct track *t, struct bits *s, const uint8_t *char
     add_number(t, s, one_in(30) ? draw_number(t) : lrc);
 }
 
-/* None, or fewer than a byte has, so that a track begins at any bit of it, or bytes. */
+/* None; fewer than eight, so that a track begins at any bit of a byte; or up to 59. */
 static size_t clocking_zeros(void)
 {
     return one_in(4) ? 0 : below(one_in(2) ? 8 : 60);

@@ -178,7 +178,8 @@ static bool run_case(uint64_t number, bool print)
 
 /* ---- Running ------------------------------------------------------------ */
 
-/* What was reached; lengths and shapes too, where cases enough were run for them. */
+/* What was reached; lengths and shapes too, where cases enough were run for them. Both are
+ * asked, so that each prints what is missing. */
 static bool report(uint64_t cases)
 {
     uint64_t calls = print_reached();
