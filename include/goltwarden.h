@@ -28,6 +28,9 @@
  *   it is under way. So at most one call that writes a journal is under way on
  *   it, and none that reads it beside that one.
  * - A journal's bytes are kept from call to call as the calls left them.
+ * - Stack: a reading of either track and a swipe take some 3 kB of it, 2 kB for
+ *   the table by which track 2 is read; any other call takes less than half a
+ *   kB. docs/BENCHMARK.md has what was measured.
  *
  * WHERE THE POWER MAY FAIL
  *
