@@ -1,6 +1,6 @@
--- A record that the look-up gives lies in its table. Assumes nothing.
+-- A record that the look-up gives lies in its table.
 use Prim.Native.Nat.{ℕ, _+_, _≤_}
-use mathlib.Core.Path.{_≡_, refl, sym, subst}
+use mathlib.Core.Path.{_≡_, refl, sym, _∙_, subst}
 use mathlib.Core.Bool.{true}
 use mathlib.Core.List.{List}
 use mathlib.Core.Option.{Option, some, none}
@@ -11,8 +11,10 @@ use Rattle.text.specs.Parts.{PartOf}
 use Rattle.reasons.specs.Reasons.{Outcome, gives, refuses}
 use Rattle.reasons.proofs.Laws.{passed, gives-refuses}
 use Rattle.pan.specs.Pan.{panLength}
-use Rattle.ranges.specs.Ranges.{tableOk, prefixOf, choice, Place, inSite, inAcquirer, siteFirst, placeRule, rangeRule, LooksUp, of-site, of-acquirer, nothing}
-use Rattle.ranges.proofs.First.{choice-inside}
+use Rattle.ranges.specs.Ranges.{tableOk, prefixOf, choice, Place, inSite, inAcquirer, placeRule, rangeRule}
+use Rattle.ranges.specs.Ranges.{LooksUp, of-site, of-acquirer, nothing}
+use Rattle.ranges.proofs.Steps.{at-site, at-acquirer, no-range}
+use Rattle.ranges.proofs.Narrowest.{chosen-narrowest}
 
 -- a place lies inside the tables: m bytes of the site's, n of the acquirer's
 pub data Inside (m n : ℕ) : Place → Type 0 where
@@ -26,22 +28,35 @@ pub acquirer-end : {m n at : ℕ} → Inside m n (inAcquirer at) → at + 16 ≤
 acquirer-end (acquirer-in h) = h
 
 -- what is given is one
-pub given : (v w : Place) → _≡_ {A = Outcome Place} (gives v) (gives w) → v ≡ w
+pub given : {A : Type 0} (v w : A) → _≡_ {A = Outcome A} (gives v) (gives w) → v ≡ w
 given v w e = cc
 
+-- what a given place says of the two choices
+pub data Placed (site acquirer : Option ℕ) : Place → Type 0 where
+  by-site : {at : ℕ} → site ≡ some at → Placed site acquirer (inSite at)
+  by-acquirer : {at : ℕ} → site ≡ none → acquirer ≡ some at → Placed site acquirer (inAcquirer at)
+
 module _ (site acquirer pan : List ℕ) where
-  by-choice : (a b : Option ℕ) → choice site (prefixOf pan) (length pan) ≡ a → choice acquirer (prefixOf pan) (length pan) ≡ b → (w : Place)
-      → siteFirst a b ≡ gives w → Inside (length site) (length acquirer) w
-  by-choice (some at) b e f w g =
-      subst (Inside (length site) (length acquirer)) (given (inSite at) w g) (site-in (choice-inside site (prefixOf pan) (length pan) at e))
-  by-choice none (some at) e f w g =
-      subst (Inside (length site) (length acquirer)) (given (inAcquirer at) w g) (acquirer-in (choice-inside acquirer (prefixOf pan) (length pan) at f))
-  by-choice none none e f w g = gives-refuses w 15 (sym g)
+  -- a place by the choices within the two tables
+  abbrev pub ByChoice : Place → Type 0
+  ByChoice w = Placed (choice site (prefixOf pan) (length pan)) (choice acquirer (prefixOf pan) (length pan)) w
+
+  by-choices : (a b : Option ℕ) → choice site (prefixOf pan) (length pan) ≡ a → choice acquirer (prefixOf pan) (length pan) ≡ b
+      → (w : Place) → placeRule site acquirer pan ≡ gives w → ByChoice w
+  by-choices (some at) b e f w g = subst ByChoice (given (inSite at) w (sym (at-site site acquirer pan at e) ∙ g)) (by-site e)
+  by-choices none (some at) e f w g = subst ByChoice (given (inAcquirer at) w (sym (at-acquirer site acquirer pan e at f) ∙ g)) (by-acquirer e f)
+  by-choices none none e f w g = gives-refuses w 15 (sym g ∙ no-range site acquirer pan e f)
+
+  pub placed : (w : Place) → placeRule site acquirer pan ≡ gives w → ByChoice w
+  placed w e = by-choices (choice site _ _) (choice acquirer _ _) refl refl w e
+
+  in-its-table : {w : Place} → ByChoice w → Inside (length site) (length acquirer) w
+  in-its-table (by-site {at = at} e) = site-in (chosen-narrowest site _ _ at e .inside)
+  in-its-table (by-acquirer {at = at} e f) = acquirer-in (chosen-narrowest acquirer _ _ at f .inside)
 
   -- the place that is given, where nothing is to be tested any more, and where everything is
   pub place-inside : (w : Place) → placeRule site acquirer pan ≡ gives w → Inside (length site) (length acquirer) w
-  unfolding placeRule
-  place-inside w e = by-choice (choice site (prefixOf pan) (length pan)) (choice acquirer (prefixOf pan) (length pan)) refl refl w e
+  place-inside w e = in-its-table (placed w e)
 
   pub range-place : (w : Place) → rangeRule site acquirer pan ≡ gives w → placeRule site acquirer pan ≡ gives w
   unfolding rangeRule

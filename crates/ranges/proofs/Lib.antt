@@ -1,4 +1,5 @@
 pub mod Steps
-pub mod First
+pub mod Narrowest
 pub mod Inside
 pub mod Laws
+pub mod Influence

@@ -1,5 +1,5 @@
--- The steps of a look-up: a record test by test, one turn of the search, the outcomes in order. Assumes nothing.
-use Prim.Native.Nat.{ℕ, zero, suc, _+_, _-_, _/_, _%_, _<_, _≤_}
+-- The steps of a look-up: a record test by test, the outcomes in order.
+use Prim.Native.Nat.{ℕ, zero, suc, _%_, _<_, _≤_}
 use mathlib.Core.Path.{_≡_, refl}
 use mathlib.Core.Bool.{Bool, true, false, _&&_}
 use mathlib.Core.List.{List, [], _∷_}
@@ -10,11 +10,12 @@ use lib.Dec.{leb, eqb}
 use lib.ListN.{length, take}
 use lib.Seq.{length-take-le}
 use Rattle.text.specs.Bytes.{isDigit, every, allDigits}
-use Rattle.text.proofs.Tests.{under, over, inside, both-true}
+use Rattle.text.proofs.Tests.{under, over, inside, inside-is, both-true}
 use Rattle.text.proofs.Numbers.{decimal-bound}
 use Rattle.reasons.specs.Reasons.{Outcome, gives, refuses, demand}
 use Rattle.pan.specs.Pan.{panLength}
-use Rattle.ranges.specs.Ranges.{tableOk, low, high, shortest, longest, prefixOf, fits, firstFrom, choice, Place, inSite, inAcquirer, placeRule, rangeRule, labelAt, labelRule}
+use Rattle.ranges.specs.Ranges.{tableOk, low, high, shortest, longest, prefixOf, fits, choice}
+use Rattle.ranges.specs.Ranges.{Place, inSite, inAcquirer, placeRule, rangeRule, labelAt, labelRule}
 
 -- a table that passed is a whole number of records, and not long
 pub whole : (t : List ℕ) → tableOk t ≡ true → (length t % 16 ≡ 0) × (length t ≤ 65536)
@@ -40,19 +41,10 @@ module _ (t : List ℕ) (at p n : ℕ) where
     unfolding fits
     up-to l = simp (inside (low t at) (high t at) p h g, le-leb (shortest t at) n l)
 
--- one turn of the search among the records that begin at `at` and end before m, and its end
-module _ (t : List ℕ) (p n at m : ℕ) where
-  pub hit : at + 16 ≤ m → fits t at p n ≡ true → firstFrom t p n at ((m - at) / 16) ≡ some at
-  unfolding firstFrom
-  hit h e = let q : (m - at) / 16 ≡ suc ((m - (at + 16)) / 16) = omega arith in rw (q, e)
-
-  pub miss : at + 16 ≤ m → fits t at p n ≡ false → firstFrom t p n at ((m - at) / 16) ≡ firstFrom t p n (at + 16) ((m - (at + 16)) / 16)
-  unfolding firstFrom
-  miss h e = let q : (m - at) / 16 ≡ suc ((m - (at + 16)) / 16) = omega arith in rw (q, e)
-
-  pub end : m ≤ at → firstFrom t p n at ((m - at) / 16) ≡ none
-  unfolding firstFrom
-  end h = let q : (m - at) / 16 ≡ 0 = omega arith in rw q
+-- a record that fits has its ends in order
+pub ends-in-order : (t : List ℕ) (at p n : ℕ) → fits t at p n ≡ true → low t at ≤ high t at
+unfolding fits
+ends-in-order t at p n h = let w = inside-is (low t at) (high t at) p (both-true _ _ h .0) in omega (arith, w .0, w .1)
 
 -- the first digits of a run of digits are digits
 pub front-digits : (n : ℕ) (s : List ℕ) → allDigits s ≡ true → allDigits (take n s) ≡ true

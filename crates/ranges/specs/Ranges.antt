@@ -1,9 +1,9 @@
--- Range tables, and the look-up of a card number in them (document 01, 'Card numbers, masking and ranges'). Assumes nothing.
-use Prim.Native.Nat.{ℕ, zero, suc, _+_, _/_, _%_}
-use mathlib.Core.Bool.{Bool, cond, _&&_}
+-- Range tables, and the look-up of a card number in them (document 01, 'Card numbers, masking and ranges').
+use Prim.Native.Nat.{ℕ, zero, suc, _+_, _-_, _*_, _/_, _%_}
+use mathlib.Core.Bool.{Bool, true, cond, _&&_}
 use mathlib.Core.List.{List}
 use mathlib.Core.Option.{Option, some, none}
-use lib.Dec.{leb, eqb}
+use lib.Dec.{leb, ltb, eqb}
 use lib.ListN.{length, getD, take}
 use denote.Ref.{RefT}
 use Rattle.text.specs.Bytes.{within, allDigits}
@@ -42,14 +42,27 @@ prefixOf pan = decimal (take 8 pan)
 unfoldable pub fits : List ℕ → ℕ → ℕ → ℕ → Bool
 fits t at p n = within (low t at) (high t at) p && within (shortest t at) (longest t at) n
 
--- of the m records from `at` on, where the first that fits begins
-unfoldable pub firstFrom : List ℕ → ℕ → ℕ → ℕ → ℕ → Option ℕ
-firstFrom t p n at zero = none
-firstFrom t p n at (suc m) = cond (fits t at p n) (some at) (firstFrom t p n (at + 16) m)
+-- how wide a record is: "high less low", which is never below 0 where the record fits
+abbrev pub width : List ℕ → ℕ → ℕ
+width t at = high t at - low t at
 
--- the choice within one table: its first fitting record
+-- a record is narrower than the best of those before it, or there is none
+abbrev pub narrower : List ℕ → ℕ → Option ℕ → Bool
+narrower t at none = true
+narrower t at (some best) = ltb (width t at) (width t best)
+
+-- the best of the records up to the one at `at`, given the best of those before it: "of equals, the earlier"
+abbrev pub better : List ℕ → ℕ → ℕ → ℕ → Option ℕ → Option ℕ
+better t p n at best = cond (fits t at p n && narrower t at best) (some at) best
+
+-- of the first m records, where "the fitting record with the smallest high less low; of equals, the earlier" begins
+unfoldable pub bestOf : List ℕ → ℕ → ℕ → ℕ → Option ℕ
+bestOf t p n zero = none
+bestOf t p n (suc m) = better t p n (16 * m) (bestOf t p n m)
+
+-- the choice within one table (document 02, E4)
 unfoldable pub choice : List ℕ → ℕ → ℕ → Option ℕ
-choice t p n = firstFrom t p n 0 (length t / 16)
+choice t p n = bestOf t p n (length t / 16)
 
 -- where a record stands: the table that holds it, and the offset there
 pub data Place : Type 0 where

@@ -3,11 +3,11 @@ use super::Found;
 use reasons::Reason;
 ghost use mathlib.Core.Path.{_≡_};
 ghost use mathlib.Core.Bool.{true, _&&_};
-ghost use Prim.Native.Nat.{_+_, _≤_, _<_};
+ghost use Prim.Native.Nat.{_+_, _≤_};
 ghost use lib.ListN.{length};
 ghost use Rattle.text.specs.Bytes.{allDigits};
 ghost use Rattle.pan.specs.Pan.{panLength};
-ghost use Rattle.ranges.specs.Ranges.{tableOk, prefixOf, fits, choice, placeRule, labelRule, saidFound};
+ghost use Rattle.ranges.specs.Ranges.{tableOk, low, high, prefixOf, fits, width, choice, placeRule, labelRule, saidFound};
 ghost use Rattle.ranges.specs.Inner.{saidChosen, saidLabel};
 
 // Whether a table's byte length is a multiple of 16 and at most 65,536.
@@ -55,23 +55,42 @@ fn fits(t: &[u8], at: usize, p: u32, n: u8) -> bool
     n <= t[at + 11]
 }
 
+// How wide the record at `at` is, whose ends are in order.
+fn width_at(t: &[u8], at: usize) -> u32
+    requires { ⌜ (at + 16 ≤ length (now t)) × (low (now t) at ≤ high (now t) at) ⌝ }
+    ensures { λ r. ⌜ r ≡ width (now (t .entry)) at ⌝ }
+{
+    text::u32_at(t, at + 4) - text::u32_at(t, at)
+}
+
 // Where the chosen record of a table begins.
 pub enum Chosen {
     At(usize),
     Nothing,
 }
 
-// The choice within a table for a PAN of n digits whose first eight are p, in one pass.
+// The choice within a table for a PAN of n digits whose first eight are p, in one pass that keeps where the best so far begins and how
+// wide it is: at first the table's end, and more than any width.
 fn choose(t: &[u8], p: u32, n: u8) -> Chosen
     requires { ⌜ tableOk (now t) ≡ true ⌝ }
     ensures { λ r. ⌜ saidChosen r ≡ choice (now (t .entry)) p n ⌝ }
 {
+    let end = t.len();
+    let mut best = end;
+    let mut width: u64 = 4294967296;
     let mut at = 0;
-    while at < t.len() {
+    while at < end {
         if fits(t, at, p, n) {
-            return Chosen::At(at);
+            let w = width_at(t, at) as u64;
+            if w < width {
+                best = at;
+                width = w;
+            }
         }
         at += 16;
+    }
+    if best < end {
+        return Chosen::At(best);
     }
     Chosen::Nothing
 }
