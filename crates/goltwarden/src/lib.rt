@@ -16,5 +16,5 @@ ghost use Rattle.goltwarden.specs.Version.{VersionIs};
 pub extern "C" fn gw_version() -> u32
     ensures { λ r. ⌜ VersionIs r ⌝ }
 {
-    4
+    5
 }
