@@ -75,7 +75,7 @@ extern "C" {
 #endif
 
 /* The version of this interface, as gw_version() answers it. */
-#define GW_VERSION 4
+#define GW_VERSION 5
 
 /* The numbered reasons. */
 enum gw_reason {
@@ -149,10 +149,12 @@ uint32_t gw_pan_mask(const uint8_t *pan, size_t pan_n, uint8_t *out, size_t out_
  * records with no header: low at 0 to 3, high at 4 to 7, label at 8 to 9,
  * shortest PAN at 10, longest at 11; 12 to 15 are ignored. A record fits a PAN
  * when its first eight digits, as a number, lie from low to high and its length
- * lies from shortest to longest, ends included. The answer is the first fitting
- * record of the site's table, else the first of the acquirer's: *table receives
- * 0 for the site's or 1 for the acquirer's, *at the byte offset of the record's
- * own 16 bytes in that table. Empty tables are allowed.
+ * lies from shortest to longest, ends included. The answer is the fitting record
+ * of the site's table with the smallest high less low, of equals the earlier; if
+ * none of the site's fits, that of the acquirer's: *table receives 0 for the
+ * site's or 1 for the acquirer's, *at the byte offset of the record's own 16 bytes
+ * in that table. Empty tables are allowed; a record with low above high fits
+ * nothing.
  * Order: 14 for the site's table, then for the acquirer's; 2 unless the PAN has
  * 13 to 19 bytes; 3 unless all digits; 15 if no range fits. */
 uint32_t gw_range_find(const uint8_t *site, size_t site_n,
@@ -351,8 +353,9 @@ uint32_t gw_journal_survey(const uint8_t *journal, size_t journal_n,
 /* ---- The swipes --------------------------------------------------------- */
 
 /* One swipe, from the stripe to the journal: read track 2 either way round,
- * divide its characters, test the PAN by Luhn, find its range, and book the
- * amount with that range's label. *serial receives the serial booked.
+ * divide its characters, test the PAN by Luhn, find its record in the range tables
+ * as gw_range_find does, and book the amount with that record's label. *serial
+ * receives the serial booked.
  * Order: 1 if the scratch has under 37 bytes; 16; 14 for the site's table, then
  * for the acquirer's; 17 if the amount is 0; 19; 18; then the reading's
  * refusals (7 to 13); 6; 4 (Luhn); 15. A refusal leaves the journal as it was.

@@ -1,5 +1,5 @@
 /*
- * A second implementation of document 01, and of requests E1 and E6 of document 02,
+ * A second implementation of document 01, and of requests E1, E4 and E6 of document 02,
  * in plain C, written from the paper alone. The tests hold the library against it,
  * call by call and byte by byte; the benchmark runs it as the plain C beside the
  * library.
@@ -31,7 +31,7 @@
 
 uint32_t gw_version(void)
 {
-    return 4;
+    return 5;
 }
 
 /* ---- Bytes and numbers -------------------------------------------------- */
@@ -170,21 +170,31 @@ static bool bad_table(size_t n)
     return n % 16 != 0 || n > SLIP(9, 65536, 65535);
 }
 
-static bool fits(const uint8_t *record, uint32_t first_eight, size_t pan_n)
+/* Whether a record fits; its width, high less low, in *width. */
+static bool fits(const uint8_t *record, uint32_t first_eight, size_t pan_n, uint32_t *width)
 {
     uint32_t low = u32_at(record), high = u32_at(record + 4);
+    *width = high - low;
     return low <= first_eight && SLIP(10, first_eight <= high, first_eight < high)
         && within(record[10], record[11], pan_n);
 }
 
-/* The offset of the first fitting record of a table, or its length. */
-static size_t first_fit(const uint8_t *table, size_t n, const uint8_t *pan, size_t pan_n)
+/* The offset of the narrowest fitting record of a table, of equals the earlier; or the
+ * table's length. */
+static size_t narrowest_fit(const uint8_t *table, size_t n, const uint8_t *pan, size_t pan_n)
 {
     uint32_t first_eight = SLIP(11, decimal(pan, 8), decimal(pan, 6) * 100);
-    size_t at = 0;
-    while (at < n && !fits(table + at, first_eight, pan_n))
-        at += 16;
-    return at;
+    uint32_t width, best_width = UINT32_MAX;
+    size_t best = n;
+    for (size_t at = 0; at < n; at += 16) {
+        if (!fits(table + at, first_eight, pan_n, &width))
+            continue;
+        if (best == n || width < best_width) {
+            best = at;
+            best_width = width;
+        }
+    }
+    return best;
 }
 
 struct tables {
@@ -199,14 +209,14 @@ struct found {
     uint32_t at;
 };
 
-/* The first fitting record of the site's table, else of the acquirer's, or 15. */
+/* The narrowest fitting record of the site's table, else of the acquirer's, or 15. */
 static uint32_t look_up(const struct tables *t, const uint8_t *pan, size_t pan_n,
                         struct found *f)
 {
-    size_t at = first_fit(t->site, t->site_n, pan, pan_n);
+    size_t at = narrowest_fit(t->site, t->site_n, pan, pan_n);
     f->table = at == t->site_n;
     if (f->table)
-        at = first_fit(t->acquirer, t->acquirer_n, pan, pan_n);
+        at = narrowest_fit(t->acquirer, t->acquirer_n, pan, pan_n);
     f->at = (uint32_t)at;
     return f->table && at == t->acquirer_n ? 15 : 0;
 }

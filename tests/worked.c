@@ -1,8 +1,8 @@
 /*
  * The worked cases of document 01, known texts, cards of track 1 whose bits are
- * written out by hand, and messages to the host, with the answers. tests/run runs
- * them against the library, and against the reference too: what judges the library
- * is itself held to the paper's own examples.
+ * written out by hand, range tables whose records overlap, and messages to the host,
+ * with the answers. tests/run runs them against the library, and against the reference
+ * too: what judges the library is itself held to the paper's own examples.
  */
 #include <inttypes.h>
 #include <stdbool.h>
@@ -290,6 +290,130 @@ static void swipe1(bool turned)
     expect("the swipe's record", memcmp(slot, w13, 32) == 0, 1);
 }
 
+/* ---- Range tables ------------------------------------------------------- */
+
+/* Records by a letter. The first five fit W1's PAN, and the last three don't. */
+static const struct {
+    char letter;
+    struct range range;
+} ranges[] = {
+    {'a', {0, UINT32_MAX, 0x0101, 13, 19}},        /* all numbers */
+    {'w', {40000000, 49999999, 0x0201, 13, 19}},   /* a wide one */
+    {'n', {41000000, 41999999, 0x0301, 13, 19}},   /* a narrow one inside it */
+    {'s', {40500000, 41499999, 0x0401, 13, 19}},   /* as narrow, and shifted */
+    {'o', {41111111, 41111111, 0x0501, 16, 16}},   /* one number */
+    {'b', {41111112, 41111112, 0x0601, 13, 19}},   /* the number beside it */
+    {'l', {41111111, 41111111, 0x0701, 13, 15}},   /* for other lengths */
+    {'r', {UINT32_MAX, 41111111, 0x0801, 13, 19}}, /* low above high, which wraps to 41111112 */
+};
+
+/* Two tables, written by the letters of their records, and what is found: in the site's
+ * (0) or the acquirer's (1) the record of that number, from 0 on. */
+struct choice {
+    const char *site, *acquirer;
+    uint32_t table, record;
+};
+
+static const struct choice choices[] = {
+    {"", "wn", 1, 1}, /* a narrow one inside a wide one, in both orders */
+    {"", "nw", 1, 0},
+    {"wn", "", 0, 1},
+    {"nw", "", 0, 0},
+    {"", "awno", 1, 3}, /* all inside one another, from outside, from inside, in no order */
+    {"", "onwa", 1, 0},
+    {"", "noaw", 1, 1},
+    {"naw", "", 0, 0},
+    {"", "nn", 1, 0}, /* of equals the earlier: of the same numbers, and shifted */
+    {"", "ns", 1, 0},
+    {"", "sn", 1, 0},
+    {"", "wsnw", 1, 1},
+    {"oo", "", 0, 0},
+    {"aa", "", 0, 0},
+    {"w", "n", 0, 0}, /* the site's wide one before the acquirer's narrow one */
+    {"a", "o", 0, 0},
+    {"wn", "o", 0, 1},
+    {"n", "w", 0, 0},
+    {"b", "wn", 1, 1}, /* none of the site's fits */
+    {"l", "nw", 1, 0},
+    {"r", "aw", 1, 1},
+    {"", "a", 1, 0}, /* from 0 to 4294967295, and narrower ones that don't fit */
+    {"", "ba", 1, 1},
+    {"", "la", 1, 1},
+    {"", "ra", 1, 1},
+    {"ablr", "o", 0, 0},
+};
+
+static size_t put_table(uint8_t *table, const char *letters)
+{
+    size_t n = 0;
+    for (; *letters; letters++)
+        for (size_t i = 0; i < sizeof ranges / sizeof ranges[0]; i++)
+            if (ranges[i].letter == *letters) {
+                memset(table + n, 0xff, 16); /* 12 to 15 are ignored */
+                put_range(table + n, &ranges[i].range);
+                n += 16;
+            }
+    return n;
+}
+
+/* Both tables as they are lent. */
+struct tables {
+    char written[32];
+    uint8_t bytes[2][64];
+    size_t n[2];
+};
+
+static struct tables tables_of(const struct choice *c)
+{
+    struct tables t;
+    snprintf(t.written, sizeof t.written, "tables '%s' and '%s'", c->site, c->acquirer);
+    t.n[0] = put_table(t.bytes[0], c->site);
+    t.n[1] = put_table(t.bytes[1], c->acquirer);
+    return t;
+}
+
+/* W1's card swiped, on track 2 and on track 1: both records have this label. */
+static void swipes_label(const struct tables *t, const uint8_t *label)
+{
+    const uint8_t *site = t->bytes[0], *acquirer = t->bytes[1];
+    struct stripe fleet = stripe_of(fleet_card, false);
+    uint8_t stream[32] = {0}, scratch[76], slots[64] = {0};
+    uint32_t serial;
+    put_track(&track2, stream, ";4111111111111111=2512101?");
+    expect(t->written, gw_swipe(stream, 17, 135, site, t->n[0], acquirer, t->n[1], 250, 0,
+                                scratch, 37, slots, 64, &serial), 0);
+    expect(t->written, gw_swipe1(fleet.bytes, sizeof fleet.bytes, fleet.bits, site, t->n[0],
+                                 acquirer, t->n[1], 250, 0, scratch, 76, slots, 64, &serial), 0);
+    expect("the swipe's label", memcmp(slots + 12, label, 2) == 0, 1);
+    expect("the label by track 1", memcmp(slots + 44, label, 2) == 0, 1);
+}
+
+static void chooses(const struct choice *c)
+{
+    struct tables t = tables_of(c);
+    uint32_t table = 99, at = 99;
+    expect(t.written, gw_range_find(t.bytes[0], t.n[0], t.bytes[1], t.n[1],
+                                    bytes("4111111111111111"), 16, &table, &at), 0);
+    expect(t.written, table, c->table);
+    expect(t.written, at, 16 * c->record);
+    swipes_label(&t, t.bytes[c->table] + 16 * c->record + 8);
+}
+
+/* Each of the choices; and where none fits, nothing is found. */
+static void range_tables(void)
+{
+    uint8_t none[64];
+    uint32_t table = 99, at = 99;
+    for (size_t i = 0; i < sizeof choices / sizeof choices[0]; i++)
+        chooses(&choices[i]);
+    size_t n = put_table(none, "blr");
+    expect("none fits", gw_range_find(none, n, none, n, bytes("4111111111111111"), 16, &table,
+                                      &at), 15);
+    expect("a refusal's numbers", table == 99 && at == 99, 1);
+}
+
+/* ---- The walk, and the host --------------------------------------------- */
+
 /* A step of the walk that checks once: the record's offset, and the serial to go on with. */
 static void step(const uint8_t *slots, uint32_t serial, uint32_t at, uint32_t next)
 {
@@ -398,10 +522,11 @@ int main(void)
     journal();
     swipe1(false);
     swipe1(true);
+    range_tables();
     walk();
     ledger();
     released_by_answers();
-    printf("worked cases, cards of track 1, and messages to the host: %s\n",
+    printf("worked cases, cards of track 1, range tables, and messages to the host: %s\n",
            wrong ? "WRONG" : "as written");
     return wrong ? 1 : 0;
 }
