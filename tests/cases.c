@@ -32,7 +32,7 @@ bool one_in(uint32_t n)
 
 static uint32_t between(uint32_t low, uint32_t high)
 {
-    return low + below(high - low + 1);
+    return low + (uint32_t)((draw() >> 32) % ((uint64_t)high - low + 1));
 }
 
 /* Any length up to a little above the bound, each bound and its neighbours more
@@ -207,6 +207,56 @@ static void make_range_record(uint8_t *record, uint32_t v, size_t pan_n)
     put_range(record, &r);
 }
 
+/* A crowded table, most of whose records fit: one in `seldom` of them has the least
+ * width, the others have that or more. */
+struct crowd {
+    uint32_t least, seldom;
+};
+
+static struct crowd draw_crowd(size_t n)
+{
+    static const uint32_t widths[] = {0, 1, 9, 9999, 99999999, UINT32_MAX - 1, UINT32_MAX};
+    uint32_t least = one_in(4) ? (uint32_t)draw() >> below(32) : widths[below(7)];
+    return (struct crowd){least, 1 + below((uint32_t)(n / 16) + 2)};
+}
+
+static uint32_t draw_width(const struct crowd *c)
+{
+    uint32_t more = one_in(c->seldom) ? 0 : one_in(8) ? UINT32_MAX : (uint32_t)draw() >> below(32);
+    return more < UINT32_MAX - c->least ? c->least + more : UINT32_MAX;
+}
+
+/* Low and high of a width, v anywhere from low to high. */
+static void draw_around(struct range *r, uint32_t v, uint32_t width)
+{
+    r->low = between(v < width ? 0 : v - width, v < UINT32_MAX - width ? v : UINT32_MAX - width);
+    r->high = r->low + width;
+}
+
+/* A record that fits, mostly; else the PAN has another length, or low is above high, and
+ * high less low wraps to a little more than v. */
+static void make_crowded_record(uint8_t *record, const struct crowd *c, uint32_t v, size_t pan_n)
+{
+    struct range r = {
+        .label = (uint16_t)draw(),
+        .shortest = (uint8_t)(pan_n - below(3)),
+        .longest = (uint8_t)(pan_n + below(3)),
+    };
+    draw_around(&r, v, draw_width(c));
+    switch (below(16)) {
+    case 0: r.shortest = (uint8_t)(pan_n + 1); break;
+    case 1: r.longest = (uint8_t)(pan_n - 1); break;
+    case 2:
+    case 3:
+        r.low = UINT32_MAX - below(1000);
+        r.high = v + below(1000);
+        break;
+    default: break;
+    }
+    fill_any(record, 16);
+    put_range(record, &r);
+}
+
 static size_t table_length(void)
 {
     static const size_t bounds[] = {65536, 65520, 65552, 65535, 65537, 65544};
@@ -214,18 +264,24 @@ static size_t table_length(void)
         return bounds[below(6)];
     if (one_in(12))
         return below(70);
-    return 16 * below(5);
+    return 16 * (one_in(16) ? between(16, 64) : below(5));
 }
 
+/* Of the longest tables, the first and the last records alone have something to do with
+ * the PAN. */
 static void make_table(uint8_t *table, size_t *n, const uint8_t *pan, size_t pan_n)
 {
     uint32_t v = first_eight(pan, pan_n);
     *n = table_length();
+    bool crowded = one_in(2);
+    struct crowd c = draw_crowd(*n);
     for (size_t at = 0; at + 16 <= *n; at += 16) {
-        if (*n < 1000 || at + 48 > *n)
-            make_range_record(table + at, v, pan_n);
-        else
+        if (*n > 1024 && at >= 32 && at + 48 <= *n)
             memset(table + at, (int)(at >> 4), 16);
+        else if (crowded)
+            make_crowded_record(table + at, &c, v, pan_n);
+        else
+            make_range_record(table + at, v, pan_n);
     }
     fill_any(table + *n / 16 * 16, *n % 16);
 }

@@ -18,6 +18,7 @@
 #include "lent.h"
 #include "reached.h"
 #include "shapes.h"
+#include "tables.h"
 
 enum {
     STREAMS = 8, STEPS = 48, HISTORY = CALLS, KINDS = CALLS + 1, PATIENCE = 60, ENOUGH = 1000000
@@ -132,6 +133,7 @@ static bool compare(bool print)
     ask(REFERENCE, reference_call, mark);
     note_reached(&made.r, answers[REFERENCE]);
     note_shape(&made.r, &lent[REFERENCE], answers[REFERENCE]);
+    note_tables(&made.r, &lent[REFERENCE], answers[REFERENCE]);
     bool agree = same();
     if (!agree)
         printf("A CASE THAT DIFFERS\n");
@@ -178,14 +180,15 @@ static bool run_case(uint64_t number, bool print)
 
 /* ---- Running ------------------------------------------------------------ */
 
-/* What was reached; lengths and shapes too, where cases enough were run for them. Both are
- * asked, so that each prints what is missing. */
+/* What was reached; lengths, shapes and tables too, where cases enough were run for them.
+ * All three are asked, so that each prints what is missing. */
 static bool report(uint64_t cases)
 {
     uint64_t calls = print_reached();
     printf("%" PRIu64 " cases, %" PRIu64 " calls compared, seed %" PRIu64 ": no difference\n",
            cases, calls, seed);
-    return refusals_reached() && (cases < ENOUGH || (lengths_reached() & shapes_reached()));
+    return refusals_reached()
+        && (cases < ENOUGH || (lengths_reached() & shapes_reached() & tables_reached()));
 }
 
 static bool run_cases(uint64_t cases)

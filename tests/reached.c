@@ -44,7 +44,7 @@ static const struct lengths call_lengths[] = {
     {PAN_MASK, 0, 0, 22, 1}, {PAN_MASK, 1, 0, 22, 1},
     {RANGE_FIND, 0, 0, 66, 1}, {RANGE_FIND, 0, 65520, 65552, 16}, {RANGE_FIND, 0, 65535, 65537, 1},
     {RANGE_FIND, 1, 0, 66, 1}, {RANGE_FIND, 1, 65520, 65552, 16}, {RANGE_FIND, 1, 65535, 65537, 1},
-    {RANGE_FIND, 2, 0, 22, 1},
+    {RANGE_FIND, 0, 256, 1024, 16}, {RANGE_FIND, 1, 256, 1024, 16}, {RANGE_FIND, 2, 0, 22, 1},
     {TRACK2_READ, 0, 0, 39, 1}, {TRACK2_READ, 0, 511, 513, 1}, {TRACK2_READ, 1, 0, 44, 1},
     {LAYOUT_READ, 0, 0, 37, 1},
     {TRACK1_READ, 0, 0, 80, 1}, {TRACK1_READ, 0, 511, 513, 1}, {TRACK1_READ, 1, 0, 83, 1},
@@ -62,8 +62,10 @@ static const struct lengths call_lengths[] = {
     {JOURNAL_SURVEY, 0, 0, 65, 1}, {JOURNAL_SURVEY, 0, 65504, 65568, 32},
     {JOURNAL_SURVEY, 1, 0, 42, 1}, {JOURNAL_SURVEY, 1, 2047, 2049, 1},
     {SWIPE, 1, 0, 66, 1}, {SWIPE, 1, 65520, 65552, 16}, {SWIPE, 2, 65535, 65537, 1},
+    {SWIPE, 1, 256, 1024, 16}, {SWIPE, 2, 256, 1024, 16},
     {SWIPE, 3, 0, 40, 1}, {SWIPE, 4, 0, 65, 1}, {SWIPE, 4, 65504, 65568, 32},
     {SWIPE1, 1, 0, 66, 1}, {SWIPE1, 1, 65520, 65552, 16}, {SWIPE1, 2, 65535, 65537, 1},
+    {SWIPE1, 1, 256, 1024, 16}, {SWIPE1, 2, 256, 1024, 16},
     {SWIPE1, 3, 0, 79, 1}, {SWIPE1, 4, 0, 65, 1}, {SWIPE1, 4, 65504, 65568, 32},
 };
 
