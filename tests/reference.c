@@ -170,17 +170,29 @@ static bool bad_table(size_t n)
     return n % 16 != 0 || n > SLIP(9, 65536, 65535);
 }
 
-/* Whether a record fits; its width, high less low, in *width. */
+/* Whether a record fits; its width, high less low, in *width. Wrong references go by high
+ * alone (93), or take a record of low above high whose width, wrapped, is enough (97). */
 static bool fits(const uint8_t *record, uint32_t first_eight, size_t pan_n, uint32_t *width)
 {
     uint32_t low = u32_at(record), high = u32_at(record + 4);
-    *width = high - low;
-    return low <= first_eight && SLIP(10, first_eight <= high, first_eight < high)
+    *width = SLIP(93, high - low, high);
+    return SLIP(97, low <= first_eight, first_eight - low <= high - low)
+        && SLIP(10, first_eight <= high, first_eight < high)
         && within(record[10], record[11], pan_n);
 }
 
+/* Whether a width is less than the best so far. Wrong references keep the first record that
+ * fits (90), take the last of equals (91) or the widest (92), or compare as signed numbers
+ * (96). */
+static bool narrower(uint32_t width, uint32_t best)
+{
+    bool less = SLIP(96, width < best, (int32_t)width < (int32_t)best);
+    return SLIP(90, SLIP(91, SLIP(92, less, width > best), width <= best), false);
+}
+
 /* The offset of the narrowest fitting record of a table, of equals the earlier; or the
- * table's length. */
+ * table's length. In a wrong reference the widest record there can be counts as none yet
+ * (95). */
 static size_t narrowest_fit(const uint8_t *table, size_t n, const uint8_t *pan, size_t pan_n)
 {
     uint32_t first_eight = SLIP(11, decimal(pan, 8), decimal(pan, 6) * 100);
@@ -189,7 +201,7 @@ static size_t narrowest_fit(const uint8_t *table, size_t n, const uint8_t *pan, 
     for (size_t at = 0; at < n; at += 16) {
         if (!fits(table + at, first_eight, pan_n, &width))
             continue;
-        if (best == n || width < best_width) {
+        if (SLIP(95, best == n, false) || narrower(width, best_width)) {
             best = at;
             best_width = width;
         }
@@ -209,21 +221,50 @@ struct found {
     uint32_t at;
 };
 
-/* The narrowest fitting record of the site's table, else of the acquirer's, or 15. */
+/* For wrong references: the offset of the first fitting record of a table that has one,
+ * which was the answer before E4. */
+static uint32_t first_fit(const uint8_t *table, const uint8_t *pan, size_t pan_n)
+{
+    uint32_t at = 0, width;
+    while (!fits(table + at, decimal(pan, 8), pan_n, &width))
+        at += 16;
+    return at;
+}
+
+/* For a wrong reference: the width of a record, and whether the acquirer has a fitting one
+ * that is narrower than the site's at this offset. */
+static uint32_t width_of(const uint8_t *record)
+{
+    return u32_at(record + 4) - u32_at(record);
+}
+
+static bool outdone(const struct tables *t, size_t at, const uint8_t *pan, size_t pan_n)
+{
+    size_t other = narrowest_fit(t->acquirer, t->acquirer_n, pan, pan_n);
+    return other < t->acquirer_n && width_of(t->acquirer + other) < width_of(t->site + at);
+}
+
+/* The narrowest fitting record of the site's table, else of the acquirer's, or 15. A
+ * wrong reference takes the narrowest of both (94), another the site's first (98). */
 static uint32_t look_up(const struct tables *t, const uint8_t *pan, size_t pan_n,
                         struct found *f)
 {
     size_t at = narrowest_fit(t->site, t->site_n, pan, pan_n);
-    f->table = at == t->site_n;
+    f->table = at == t->site_n || SLIP(94, false, outdone(t, at, pan, pan_n));
     if (f->table)
         at = narrowest_fit(t->acquirer, t->acquirer_n, pan, pan_n);
-    f->at = (uint32_t)at;
+    f->at = (uint32_t)SLIP(98, at, f->table ? at : first_fit(t->site, pan, pan_n));
     return f->table && at == t->acquirer_n ? 15 : 0;
+}
+
+static const uint8_t *table_of(const struct tables *t, const struct found *f)
+{
+    return f->table ? t->acquirer : t->site;
 }
 
 static uint16_t label_of(const struct tables *t, const struct found *f)
 {
-    const uint8_t *record = (f->table ? t->acquirer : t->site) + f->at;
+    const uint8_t *record = table_of(t, f) + f->at;
     return SLIP(44, u16_at(record + 8), record[8]);
 }
 
@@ -1025,6 +1066,8 @@ OVER_TRACK uint32_t swipe(const struct track *t, const struct given *g,
         refusal = read_card(t, g, chars, &l, &f);
     if (refusal)
         return refusal;
+    /* A wrong reference books the label of that table's first fitting record (99). */
+    f.at = SLIP(99, f.at, first_fit(table_of(&g->tables, &f), chars + l.pan_at, l.pan_n));
     *serial = book(journal, &v, chars + l.pan_at, l.pan_n, label_of(&g->tables, &f), g->amount,
                    g->clock);
     return 0;
