@@ -1,7 +1,7 @@
 """Tests of the commands as people expect them: answers that arrive, lines as they are typed, help, dumps, box and host."""
-import collections, functools, operator, os, random, subprocess
+import collections, functools, operator, os, random, struct, subprocess
 
-from drive import CARD, EVERY, OTHER, SLOT, SLOTS, Session, lines, program, records, run, same, traced
+from drive import CARD, EVERY, OTHER, SLOT, SLOTS, TRACK1, TRACK2, Session, lines, program, records, run, same, traced
 
 
 def journal_at(path, slots=SLOTS):
@@ -162,6 +162,51 @@ def any_fleet_card(folder):
     same(lines("\n".join(script) + "\n"), wanted)
 
 
+# ---- range tables
+
+
+def overlapping(chance, number):
+    """A table of ranges around a number, a few widths among them, and some with low above high: the low, high and label of each."""
+    widths, table = chance.sample([0, 1, 9, 999999, 99999999, 4294967295], 2), []
+    for label in chance.sample(range(65536), chance.choice([0, 1, 2, 4, 12])):
+        width = chance.choice(widths)
+        low = chance.randint(max(0, number - width), min(number, 4294967295 - width))
+        table.append(chance.choice([(low, low + width, label)] * 9 + [(4294967295, number, label)]))
+    return table
+
+
+def in_bytes(table):
+    return "".join(struct.pack("<IIHBBI", *record, 13, 19, 0).hex().upper() for record in table) or "-"
+
+
+def narrowest(table, number):
+    """The numbers of the records that fit, by high less low, of equals the earlier first."""
+    return sorted((k for k, (low, high, _) in enumerate(table) if low <= number <= high), key=lambda k: table[k][1] - table[k][0])
+
+
+def any_tables(folder):
+    """Ranges that overlap, in both tables: the narrowest of the site's that fits is found, else of the acquirer's, of equals the earlier,
+    and swipes of both tracks book its label."""
+    chance, session, number, serial, none = random.Random(4), Session(), int(CARD[:8]), 0, 0
+    swipes = f"swipe {TRACK2} 1 0", f"swipe1 {TRACK1} 1 0"
+    for turn in range(400):
+        tables = {"site": overlapping(chance, number), "acquirer": overlapping(chance, number)}
+        for name, table in tables.items():
+            same(session.ask(f"{name} {in_bytes(table)}"), f"{name} {len(table)} records")
+        found = [(name, k) for name, table in tables.items() for k in narrowest(table, number)]
+        if not found:
+            none += 1
+            same([session.ask(line) for line in (f"range {CARD}", *swipes)], ["refused 15: no range fits"] * 3, f"answers by {tables}")
+            continue
+        name, k = found[0]
+        same(session.ask(f"range {CARD}"), f"{name} {k} {in_bytes(tables[name][k : k + 1])}", f"the record of {tables}")
+        for line in swipes:
+            serial += 1
+            same(session.ask(line), f"booked {serial}")
+            same(session.ask(f"show {serial}").split(" label ")[1], f"{tables[name][k][2]} card 411111******1111", f"the label by {tables}")
+    same((session.end(), serial > 0, none > 0), ([], True, True), "what was met")
+
+
 # ---- journals
 
 
@@ -300,4 +345,4 @@ def ledger_in_memory(folder):
 
 
 TESTS = [few_writes, each_in_time, full_output, closed_pipe, long_unheard, crlf, groups, every_example, nearest, any_fleet_card,
-         pasted_back, decoded, wrong_lengths, any_course, ledger_in_memory]
+         any_tables, pasted_back, decoded, wrong_lengths, any_course, ledger_in_memory]
