@@ -203,14 +203,32 @@ static void lend_table(int buffer, unsigned records)
     }
 }
 
-static void range_row(unsigned records)
+/* A table all of whose records fit, each inside the one before it. */
+static void lend_nest(int buffer, unsigned records)
+{
+    made.r.n[buffer] = 16 * (size_t)records;
+    for (unsigned i = 0; i < records; i++) {
+        uint32_t beside = records - 1 - i;
+        struct range r = {41111111 - beside, 41111111 + beside, 7, 13, 19};
+        put_range(made.bytes[buffer] + 16 * (size_t)i, &r);
+    }
+}
+
+static void range_row(const char *name, unsigned records, void (*lend)(int, unsigned),
+                      const char *what)
 {
     start(RANGE_FIND);
-    lend_table(1, records);
+    lend(1, records);
     lend_text(2, pan);
-    printf("input range_find %u %s; no site's table; the acquirer's last record alone fits\n",
-           records, pan);
-    row("range_find", records);
+    printf("input %s %u %s; no site's table; %s\n", name, records, pan, what);
+    row(name, records);
+}
+
+static void range_rows(unsigned records)
+{
+    range_row("range_find", records, lend_table, "the acquirer's last record alone fits");
+    range_row("range_find.all_fit", records, lend_nest,
+              "all the acquirer's records fit, each narrower than the one before it");
 }
 
 /* A journal that has wrapped, its newest records held, the others released. */
@@ -354,7 +372,7 @@ int main(void)
     track_rows();
     ledger_rows();
     for (int i = 0; i < 5; i++)
-        range_row(records[i]);
+        range_rows(records[i]);
     for (int i = 0; i < 5; i++)
         journal_rows(slots[i]);
     walk_rows(16);

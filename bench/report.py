@@ -21,8 +21,9 @@ LIBRARY, PLAIN, NOTHING = range(3)
 EMPTY_CALL = 2  # the instructions of a call that does nothing
 SHOWN = {0, 16, 2048, 4096}  # sizes in the first table
 REFUSED = {"ledger_take.refused": "6"}  # rows whose call is refused, and the reason
-GROWING = ["range_find", "journal_book", "journal_release", "journal_tell", "swipe"]
-COLOURS = ["#1b6ca8", "#b5651d", "#2e8b57", "#8a2be2", "#c0392b"]
+GROWING = ["range_find", "range_find.all_fit", "journal_book", "journal_release", "journal_tell",
+           "swipe"]
+COLOURS = ["#1b6ca8", "#222222", "#b5651d", "#2e8b57", "#8a2be2", "#c0392b"]
 
 
 class Row:
