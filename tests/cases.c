@@ -30,6 +30,7 @@ bool one_in(uint32_t n)
     return below(n) == 0;
 }
 
+/* In 64 bits, since from 0 to UINT32_MAX there is one number more than below() takes. */
 static uint32_t between(uint32_t low, uint32_t high)
 {
     return low + (uint32_t)((draw() >> 32) % ((uint64_t)high - low + 1));

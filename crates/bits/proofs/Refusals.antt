@@ -1,5 +1,5 @@
 -- "Each is given exactly when its condition is the first to hold": the reading's 1, 7 and 8 to 13, in their order. Assumes nothing.
-use Prim.Native.Nat.{ℕ, zero, suc, _+_, _-_, _*_}
+use Prim.Native.Nat.{ℕ, suc, _+_, _-_, _*_}
 use mathlib.Core.Path.{_≡_, refl, sym, ap, _∙_}
 use mathlib.Core.Bool.{Bool, true, false, cond, _&&_}
 use mathlib.Core.Logic.{_⊎_, _↔_, inl, inr, ⊎-elim}

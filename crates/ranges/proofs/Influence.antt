@@ -9,8 +9,8 @@ use native.Mathlib.Omega.{arith}
 use lib.ListN.{length, getD}
 use Rattle.text.specs.Numbers.{u32At}
 use Rattle.ranges.specs.Ranges.{low, high, prefixOf, fits, width, choice, placeRule}
-use Rattle.ranges.proofs.Narrowest.{both-ways, chosen-narrowest, chosen-none}
-use Rattle.ranges.proofs.Laws.{IsNarrowest, narrowest-chosen, none-chosen}
+use Rattle.ranges.proofs.Narrowest.{IsNarrowest, both-ways, chosen-narrowest, chosen-none}
+use Rattle.ranges.proofs.Laws.{narrowest-chosen, none-chosen}
 
 -- two tables have the same first twelve bytes of the record at `at`
 abbrev pub Twelve : List ℕ → List ℕ → ℕ → Type 0
@@ -44,10 +44,10 @@ Alike t u p n at = (fits t at p n ≡ fits u at p n) × (fits t at p n ≡ true 
 -- or has the same first twelve bytes in both
 pub record SameFor (t u : List ℕ) (p n : ℕ) : Type 0 where
   pub long : length t ≡ length u
-  pub each : (k : ℕ) → 16 * k + 16 ≤ length t → ((fits t (16 * k) p n ≡ false) × (fits u (16 * k) p n ≡ false)) ⊎ Twelve t u (16 * k)
+  pub each : (k : ℕ) → k < length t / 16 → ((fits t (16 * k) p n ≡ false) × (fits u (16 * k) p n ≡ false)) ⊎ Twelve t u (16 * k)
 
 module _ (t u : List ℕ) (p n : ℕ) (same : SameFor t u p n) where
-  alike : (k : ℕ) → 16 * k + 16 ≤ length t → Alike t u p n (16 * k)
+  alike : (k : ℕ) → k < length t / 16 → Alike t u p n (16 * k)
   alike k l = ⊎-elim misses (λ s. (twelve-tell t u (16 * k) s p n, λ g. as-wide t u (16 * k) s)) (same .each k l)
     where
       misses : (fits t (16 * k) p n ≡ false) × (fits u (16 * k) p n ≡ false) → Alike t u p n (16 * k)
@@ -76,7 +76,7 @@ module _ (t u : List ℕ) (p n : ℕ) (same : SameFor t u p n) where
   by-choice : (o : Option ℕ) → choice t p n ≡ o → o ≡ choice u p n
   by-choice none f =
       sym (none-chosen u p n (λ k l.
-      let i : 16 * k + 16 ≤ length t = omega (arith, same .long) in
+      let i : k < length t / 16 = omega (arith, same .long) in
       sym (alike k i .0) ∙ chosen-none t p n f k i))
   by-choice (some a) f = sym (narrowest-chosen u p n a (as-narrow a (chosen-narrowest t p n a f)))
 

@@ -1,9 +1,10 @@
--- A record that the look-up gives lies in its table.
+-- The record that a look-up answers is the narrowest of its table, and lies in it.
 use Prim.Native.Nat.{ℕ, _+_, _≤_}
 use mathlib.Core.Path.{_≡_, refl, sym, _∙_, subst}
 use mathlib.Core.Bool.{true}
 use mathlib.Core.List.{List}
 use mathlib.Core.Option.{Option, some, none}
+use native.Mathlib.Omega.{arith}
 use lib.ListN.{length}
 use denote.Ref.{RefT}
 use Rattle.text.specs.Bytes.{allDigits}
@@ -14,7 +15,7 @@ use Rattle.pan.specs.Pan.{panLength}
 use Rattle.ranges.specs.Ranges.{tableOk, prefixOf, choice, Place, inSite, inAcquirer, placeRule, rangeRule}
 use Rattle.ranges.specs.Ranges.{LooksUp, of-site, of-acquirer, nothing}
 use Rattle.ranges.proofs.Steps.{at-site, at-acquirer, no-range}
-use Rattle.ranges.proofs.Narrowest.{chosen-narrowest}
+use Rattle.ranges.proofs.Narrowest.{IsNarrowest, NoneFits, chosen-narrowest, chosen-none}
 
 -- a place lies inside the tables: m bytes of the site's, n of the acquirer's
 pub data Inside (m n : ℕ) : Place → Type 0 where
@@ -31,32 +32,33 @@ acquirer-end (acquirer-in h) = h
 pub given : {A : Type 0} (v w : A) → _≡_ {A = Outcome A} (gives v) (gives w) → v ≡ w
 given v w e = cc
 
--- what a given place says of the two choices
-pub data Placed (site acquirer : Option ℕ) : Place → Type 0 where
-  by-site : {at : ℕ} → site ≡ some at → Placed site acquirer (inSite at)
-  by-acquirer : {at : ℕ} → site ≡ none → acquirer ≡ some at → Placed site acquirer (inAcquirer at)
+-- where an answer stands: the narrowest of the site's table, else of the acquirer's
+pub data Answer (site acquirer : List ℕ) (p n : ℕ) : Place → Type 0 where
+  the-site's : {at : ℕ} → IsNarrowest site p n at → Answer site acquirer p n (inSite at)
+  the-acquirer's : {at : ℕ} → NoneFits site p n → IsNarrowest acquirer p n at → Answer site acquirer p n (inAcquirer at)
 
 module _ (site acquirer pan : List ℕ) where
-  -- a place by the choices within the two tables
-  abbrev pub ByChoice : Place → Type 0
-  ByChoice w = Placed (choice site (prefixOf pan) (length pan)) (choice acquirer (prefixOf pan) (length pan)) w
-
   by-choices : (a b : Option ℕ) → choice site (prefixOf pan) (length pan) ≡ a → choice acquirer (prefixOf pan) (length pan) ≡ b
-      → (w : Place) → placeRule site acquirer pan ≡ gives w → ByChoice w
-  by-choices (some at) b e f w g = subst ByChoice (given (inSite at) w (sym (at-site site acquirer pan at e) ∙ g)) (by-site e)
-  by-choices none (some at) e f w g = subst ByChoice (given (inAcquirer at) w (sym (at-acquirer site acquirer pan e at f) ∙ g)) (by-acquirer e f)
+      → (w : Place) → placeRule site acquirer pan ≡ gives w → Answer site acquirer (prefixOf pan) (length pan) w
+  by-choices (some at) b e f w g =
+      let q = given (inSite at) w (sym (at-site site acquirer pan at e) ∙ g) in
+      subst (Answer site acquirer _ _) q (the-site's (chosen-narrowest site _ _ at e))
+  by-choices none (some at) e f w g =
+      let q = given (inAcquirer at) w (sym (at-acquirer site acquirer pan e at f) ∙ g) in
+      subst (Answer site acquirer _ _) q (the-acquirer's (chosen-none site _ _ e) (chosen-narrowest acquirer _ _ at f))
   by-choices none none e f w g = gives-refuses w 15 (sym g ∙ no-range site acquirer pan e f)
 
-  pub placed : (w : Place) → placeRule site acquirer pan ≡ gives w → ByChoice w
-  placed w e = by-choices (choice site _ _) (choice acquirer _ _) refl refl w e
+  -- "Look-up must answer the fitting record with the smallest high less low"
+  pub place-narrowest : (w : Place) → placeRule site acquirer pan ≡ gives w → Answer site acquirer (prefixOf pan) (length pan) w
+  place-narrowest w e = by-choices (choice site _ _) (choice acquirer _ _) refl refl w e
 
-  in-its-table : {w : Place} → ByChoice w → Inside (length site) (length acquirer) w
-  in-its-table (by-site {at = at} e) = site-in (chosen-narrowest site _ _ at e .inside)
-  in-its-table (by-acquirer {at = at} e f) = acquirer-in (chosen-narrowest acquirer _ _ at f .inside)
+  in-its-table : {p n : ℕ} {w : Place} → Answer site acquirer p n w → Inside (length site) (length acquirer) w
+  in-its-table (the-site's {at = at} r) = site-in {at = at} (omega (arith, r .inside))
+  in-its-table (the-acquirer's {at = at} g r) = acquirer-in {at = at} (omega (arith, r .inside))
 
   -- the place that is given, where nothing is to be tested any more, and where everything is
   pub place-inside : (w : Place) → placeRule site acquirer pan ≡ gives w → Inside (length site) (length acquirer) w
-  place-inside w e = in-its-table (placed w e)
+  place-inside w e = in-its-table (place-narrowest w e)
 
   pub range-place : (w : Place) → rangeRule site acquirer pan ≡ gives w → placeRule site acquirer pan ≡ gives w
   unfolding rangeRule

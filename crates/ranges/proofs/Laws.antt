@@ -1,5 +1,5 @@
 -- The laws of the look-up.
-use Prim.Native.Nat.{ℕ, _+_, _*_, _/_, _<_, _≤_}
+use Prim.Native.Nat.{ℕ, _*_, _/_, _<_, _≤_}
 use mathlib.Core.Path.{_≡_, refl, sym, ap, _∙_, subst}
 use mathlib.Core.Bool.{true, false}
 use mathlib.Core.Logic.{_↔_}
@@ -22,8 +22,8 @@ use Rattle.ranges.specs.Ranges.{tableOk, low, high, prefixOf, fits, widt
 use Rattle.ranges.specs.Ranges.{Place, inSite, inAcquirer, placeRule, rangeRule, labelAt, labelRule}
 use Rattle.ranges.specs.Ranges.{saidFound, LooksUp, of-site, of-acquirer, nothing}
 use Rattle.ranges.proofs.Steps.{below, above, at-site, at-acquirer, no-range, label-given, label-refused}
-use Rattle.ranges.proofs.Narrowest.{NarrowestOf, NoneOf, both-ways, chosen-narrowest, chosen-none}
-use Rattle.ranges.proofs.Inside.{given, by-site, by-acquirer, ByChoice, placed, range-place}
+use Rattle.ranges.proofs.Narrowest.{IsNarrowest, NoneFits, both-ways, chosen-narrowest, chosen-none}
+use Rattle.ranges.proofs.Inside.{given, Answer, the-site's, the-acquirer's, place-narrowest, range-place}
 
 -- any two answers that a look-up allows are equal: place, part and number
 pub found-one : (r q : Found) → saidFound r ≡ saidFound q → r ≡ q
@@ -58,14 +58,6 @@ which-table {s} {a} {o} {r} f e h = by f (subst (λ (x : Outcome Place). LooksUp
     by (Site at) (of-site g) = in-site's g
     by (Acquirer at) (of-acquirer g) = in-acquirer's g
     by (Refused why) (nothing g) = in-neither g
-
--- "the fitting record with the smallest high less low; of equals, the earlier", of all records of the table
-abbrev pub IsNarrowest : List ℕ → ℕ → ℕ → ℕ → Type 0
-IsNarrowest t p n a = NarrowestOf t p n (length t) a
-
--- no record of the table fits
-abbrev pub NoneFits : List ℕ → ℕ → ℕ → Type 0
-NoneFits t p n = NoneOf t p n (length t)
 
 module _ (t : List ℕ) (p n : ℕ) where
   -- of equally narrow records the one that is chosen stands first,
@@ -111,34 +103,22 @@ module _ (t : List ℕ) (p n : ℕ) where
   none-chosen f = by-none (choice t p n) refl f
 
   -- and where a record fits, one is
-  pub some-chosen : (k : ℕ) → 16 * k + 16 ≤ length t → fits t (16 * k) p n ≡ true → (a : ℕ) × (choice t p n ≡ some a)
+  pub some-chosen : (k : ℕ) → k < length t / 16 → fits t (16 * k) p n ≡ true → (a : ℕ) × (choice t p n ≡ some a)
   some-chosen k l f = by (choice t p n) refl
     where
       by : (o : Option ℕ) → choice t p n ≡ o → (a : ℕ) × (choice t p n ≡ some a)
       by none e = both-ways t p n (16 * k) f (chosen-none t p n e k l)
       by (some a) e = (a, e)
 
--- where an answer stands: the narrowest of the site's table, else of the acquirer's
-pub data Answer (site acquirer : List ℕ) (p n : ℕ) : Place → Type 0 where
-  the-site's : {at : ℕ} → IsNarrowest site p n at → Answer site acquirer p n (inSite at)
-  the-acquirer's : {at : ℕ} → NoneFits site p n → IsNarrowest acquirer p n at → Answer site acquirer p n (inAcquirer at)
-
 module _ (site acquirer pan : List ℕ) where
-  narrowest-there : {w : Place} → ByChoice site acquirer pan w → Answer site acquirer (prefixOf pan) (length pan) w
-  narrowest-there (by-site {at = at} e) = the-site's (chosen-narrowest site _ _ at e)
-  narrowest-there (by-acquirer {at = at} e f) = the-acquirer's (chosen-none site _ _ e) (chosen-narrowest acquirer _ _ at f)
-
-  -- "Look-up must answer the fitting record with the smallest high less low": it answers that one, and no other
-  pub place-narrowest : (w : Place) → placeRule site acquirer pan ≡ gives w → Answer site acquirer (prefixOf pan) (length pan) w
-  place-narrowest w e = narrowest-there (placed site acquirer pan w e)
+  -- "Look-up must answer the fitting record with the smallest high less low": what it answers is that one, and that one is what it answers
+  pub answer-narrowest : (w : Place) → rangeRule site acquirer pan ≡ gives w → Answer site acquirer (prefixOf pan) (length pan) w
+  answer-narrowest w e = place-narrowest site acquirer pan w (range-place site acquirer pan w e)
 
   pub narrowest-placed : {w : Place} → Answer site acquirer (prefixOf pan) (length pan) w → placeRule site acquirer pan ≡ gives w
   narrowest-placed (the-site's {at = at} f) = at-site site acquirer pan at (narrowest-chosen site _ _ at f)
   narrowest-placed (the-acquirer's {at = at} g f) =
       at-acquirer site acquirer pan (none-chosen site _ _ g) at (narrowest-chosen acquirer _ _ at f)
-
-  pub answer-narrowest : (w : Place) → rangeRule site acquirer pan ≡ gives w → Answer site acquirer (prefixOf pan) (length pan) w
-  answer-narrowest w e = place-narrowest w (range-place site acquirer pan w e)
 
   -- "The swipe's label follows the new rule": it is the label of that record
   pub label-follows : (l : ℕ) → labelRule site acquirer pan ≡ gives l
@@ -147,7 +127,7 @@ module _ (site acquirer pan : List ℕ) where
     where
       by : (o : Outcome Place) → placeRule site acquirer pan ≡ o
           → (w : Place) × Answer site acquirer (prefixOf pan) (length pan) w × (l ≡ labelAt site acquirer w)
-      by (gives w) f = (w, place-narrowest w f, given l _ (sym e ∙ label-given site acquirer pan w f))
+      by (gives w) f = (w, place-narrowest site acquirer pan w f, given l _ (sym e ∙ label-given site acquirer pan w f))
       by (refuses r) f = gives-refuses l r (sym e ∙ label-refused site acquirer pan r f)
 
   -- ---- the refusals
@@ -184,7 +164,7 @@ module _ (site acquirer pan : List ℕ) where
       (λ e. p .0 (simp (s, a, l, d) at e) .1, λ h. simp (s, a, l, d) (p .1 (refl, h)))
 
 -- "A fitting record in the site's table still wins over all of the acquirer's", whatever records those are
-pub site-wins : (site pan : List ℕ) (k : ℕ) → 16 * k + 16 ≤ length site → fits site (16 * k) (prefixOf pan) (length pan) ≡ true
+pub site-wins : (site pan : List ℕ) (k : ℕ) → k < length site / 16 → fits site (16 * k) (prefixOf pan) (length pan) ≡ true
     → (a : ℕ) × IsNarrowest site (prefixOf pan) (length pan) a × ((acquirer : List ℕ) → placeRule site acquirer pan ≡ gives (inSite a))
 site-wins site pan k l f =
     let c = some-chosen site _ _ k l f in

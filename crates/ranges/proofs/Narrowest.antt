@@ -10,120 +10,109 @@ use borrow.Author.Tests.{lt-ltb, le-ltb}
 use lib.ListN.{length}
 use Rattle.ranges.specs.Ranges.{fits, width, better, bestOf, choice}
 
--- of the records in a table's first e bytes, the one at a fits, no fitting one is narrower, and the fitting ones before it are wider
-pub record NarrowestOf (t : List ℕ) (p n e a : ℕ) : Type 0 where
-  pub inside : a + 16 ≤ e
+-- of a table's first m records the one at a fits, no fitting one is narrower, and the fitting ones before it are wider
+pub record NarrowestOf (t : List ℕ) (p n m a : ℕ) : Type 0 where
+  pub inside : a + 16 ≤ 16 * m
   pub whole : a % 16 ≡ 0
   pub fit : fits t a p n ≡ true
-  pub narrowest : (k : ℕ) → 16 * k + 16 ≤ e → fits t (16 * k) p n ≡ true → width t a ≤ width t (16 * k)
+  pub narrowest : (k : ℕ) → k < m → fits t (16 * k) p n ≡ true → width t a ≤ width t (16 * k)
   pub earlier : (k : ℕ) → 16 * k < a → fits t (16 * k) p n ≡ true → width t a < width t (16 * k)
 
 -- none of them fits
 abbrev pub NoneOf : List ℕ → ℕ → ℕ → ℕ → Type 0
-NoneOf t p n e = (k : ℕ) → 16 * k + 16 ≤ e → fits t (16 * k) p n ≡ false
+NoneOf t p n m = (k : ℕ) → k < m → fits t (16 * k) p n ≡ false
 
--- what a choice among them says
-pub data Best (t : List ℕ) (p n e : ℕ) : Option ℕ → Type 0 where
-  no-record : NoneOf t p n e → Best t p n e none
-  record-at : {a : ℕ} → NarrowestOf t p n e a → Best t p n e (some a)
+-- "the fitting record with the smallest high less low; of equals, the earlier", of all records of the table
+abbrev pub IsNarrowest : List ℕ → ℕ → ℕ → ℕ → Type 0
+IsNarrowest t p n a = NarrowestOf t p n (length t / 16) a
+
+-- no record of the table fits
+abbrev pub NoneFits : List ℕ → ℕ → ℕ → Type 0
+NoneFits t p n = NoneOf t p n (length t / 16)
+
+-- what a choice among the first m records says
+data Best (t : List ℕ) (p n m : ℕ) : Option ℕ → Type 0 where
+  no-record : NoneOf t p n m → Best t p n m none
+  record-at : {a : ℕ} → NarrowestOf t p n m a → Best t p n m (some a)
+
+-- what holds of the first m and of the next holds of one more
+with-next : (P : ℕ → Type 0) (m : ℕ) → ((k : ℕ) → k < m → P k) → P m → (k : ℕ) → k < suc m → P k
+with-next P m g h k l = by (decLt k m)
+  where
+    by : Dec (k < m) → P k
+    by (yes q) = g k q
+    by (no q) = let e : m ≡ k = omega arith in subst P e h
 
 module _ (t : List ℕ) (p n : ℕ) where
   -- a record doesn't both fit and not
   pub both-ways : {A : Type 0} (at : ℕ) → fits t at p n ≡ true → fits t at p n ≡ false → A
   both-ways at f g = absurd (true≢false (sym f ∙ g))
 
-  -- what holds of the first m records and of the next holds of one more
-  with-next : (P : ℕ → Type 0) (m : ℕ) → ((k : ℕ) → 16 * k + 16 ≤ 16 * m → P k) → P m → (k : ℕ) → 16 * k + 16 ≤ 16 * suc m → P k
-  with-next P m g h k l = by (decLt k m)
-    where
-      by : Dec (k < m) → P k
-      by (yes q) = g k (omega arith)
-      by (no q) = let e : m ≡ k = omega arith in subst P e h
-
-  -- no fitting one of the first m records is narrower than w
-  abbrev NoneBelow : ℕ → ℕ → Type 0
-  NoneBelow m w = (k : ℕ) → 16 * k + 16 ≤ 16 * m → fits t (16 * k) p n ≡ true → w ≤ width t (16 * k)
-
-  none-below : (m w : ℕ) → NoneBelow m w → (fits t (16 * m) p n ≡ true → w ≤ width t (16 * m)) → NoneBelow (suc m) w
-  none-below m w g h = with-next (λ (k : ℕ). fits t (16 * k) p n ≡ true → w ≤ width t (16 * k)) m g h
+  -- the record at 16 * k is at least w wide if it fits
+  abbrev AtLeast : ℕ → ℕ → Type 0
+  AtLeast w k = fits t (16 * k) p n ≡ true → w ≤ width t (16 * k)
 
   -- one record more: the best so far stays the best,
-  stays : (m a : ℕ) → NarrowestOf t p n (16 * m) a → (fits t (16 * m) p n ≡ true → width t a ≤ width t (16 * m))
-      → NarrowestOf t p n (16 * suc m) a
+  stays : (m a : ℕ) → NarrowestOf t p n m a → AtLeast (width t a) m → NarrowestOf t p n (suc m) a
   stays m a r h =
       record {
         inside = omega (arith, r .inside);
         whole = r .whole;
         fit = r .fit;
-        narrowest = none-below m (width t a) (r .narrowest) h;
+        narrowest = with-next (AtLeast (width t a)) m (r .narrowest) h;
         earlier = r .earlier;
       }
 
   -- or the new one takes over, the fitting ones before it being wider
-  takes-over : (m : ℕ) → fits t (16 * m) p n ≡ true → NoneBelow m (suc (width t (16 * m))) → NarrowestOf t p n (16 * suc m) (16 * m)
+  takes-over : (m : ℕ) → fits t (16 * m) p n ≡ true → ((k : ℕ) → k < m → AtLeast (suc (width t (16 * m))) k) → NarrowestOf t p n (suc m) (16 * m)
   takes-over m f g =
       record {
         inside = omega arith;
         whole = omega arith;
         fit = f;
-        narrowest = none-below m (width t (16 * m)) (λ k l h. omega (arith, g k l h)) (λ h. omega arith);
+        narrowest = with-next (AtLeast (width t (16 * m))) m (λ k l h. omega (arith, g k l h)) (λ h. omega arith);
         earlier = λ k l h. g k (omega arith) h;
       }
 
-  misses : {o : Option ℕ} (m : ℕ) → Best t p n (16 * m) o → fits t (16 * m) p n ≡ false → Best t p n (16 * suc m) o
+  misses : {o : Option ℕ} (m : ℕ) → Best t p n m o → fits t (16 * m) p n ≡ false → Best t p n (suc m) o
   misses m (no-record g) f = no-record (with-next (λ (k : ℕ). fits t (16 * k) p n ≡ false) m g f)
   misses m (record-at r) f = record-at (stays m _ r (λ h. both-ways (16 * m) h f))
 
-  hits : {o : Option ℕ} (m : ℕ) → Best t p n (16 * m) o → fits t (16 * m) p n ≡ true → Best t p n (16 * suc m) (better t p n (16 * m) o)
+  hits : {o : Option ℕ} (m : ℕ) → Best t p n m o → fits t (16 * m) p n ≡ true → Best t p n (suc m) (better t p n (16 * m) o)
   hits m (no-record g) f = rw f (record-at (takes-over m f (λ k l h. both-ways (16 * k) h (g k l))))
   hits m (record-at {a = a} r) f = by (decLt (width t (16 * m)) (width t a))
     where
-      by : Dec (width t (16 * m) < width t a) → Best t p n (16 * suc m) (better t p n (16 * m) (some a))
+      by : Dec (width t (16 * m) < width t a) → Best t p n (suc m) (better t p n (16 * m) (some a))
       by (yes w) = rw (f, lt-ltb _ _ w) (record-at (takes-over m f (λ k l h. omega (arith, r .narrowest k l h))))
       by (no w) =
           let v : width t a ≤ width t (16 * m) = omega arith in
           rw (f, le-ltb _ _ v) (record-at (stays m a r (λ h. v)))
 
-  turn : (m : ℕ) (o : Option ℕ) → Best t p n (16 * m) o → (b : Bool) → fits t (16 * m) p n ≡ b
-      → Best t p n (16 * suc m) (better t p n (16 * m) o)
+  turn : (m : ℕ) (o : Option ℕ) → Best t p n m o → (b : Bool) → fits t (16 * m) p n ≡ b → Best t p n (suc m) (better t p n (16 * m) o)
   turn m o h true f = hits m h f
   turn m o h false f = rw f (misses m h f)
 
-  -- what the definition chooses among the first m records is the best of them,
-  best-of : (m : ℕ) → Best t p n (16 * m) (bestOf t p n m)
+  -- what the definition chooses among the first m records is the best of them
+  best-of : (m : ℕ) → Best t p n m (bestOf t p n m)
   unfolding bestOf
   best-of zero = no-record (λ k l. absurd (omega arith))
   best-of (suc m) = turn m (bestOf t p n m) (best-of m) (fits t (16 * m) p n) refl
 
-  -- and bytes behind the last whole record don't count
-  whole-records : {o : Option ℕ} (e m : ℕ) → 16 * m ≤ e → e < 16 * m + 16 → Best t p n (16 * m) o → Best t p n e o
-  whole-records e m l h (no-record g) = no-record (λ k i. g k (omega arith))
-  whole-records e m l h (record-at {a = a} r) =
-      record-at {a = a} (record {
-        inside = omega (arith, r .inside);
-        whole = r .whole;
-        fit = r .fit;
-        narrowest = λ k i. r .narrowest k (omega arith);
-        earlier = r .earlier;
-      })
-
-  choice-best : Best t p n (length t) (choice t p n)
-  unfolding choice
-  choice-best = whole-records (length t) (length t / 16) (omega arith) (omega arith) (best-of (length t / 16))
-
-  the-one : {e a : ℕ} → Best t p n e (some a) → NarrowestOf t p n e a
+  the-one : {m a : ℕ} → Best t p n m (some a) → NarrowestOf t p n m a
   the-one (record-at r) = r
 
-  the-none : {e : ℕ} → Best t p n e none → NoneOf t p n e
+  the-none : {m : ℕ} → Best t p n m none → NoneOf t p n m
   the-none (no-record g) = g
 
-  -- of the whole table: what is chosen fits, no fitting record is narrower, and the fitting ones before it are wider,
-  pub chosen-narrowest : (a : ℕ) → choice t p n ≡ some a → NarrowestOf t p n (length t) a
-  chosen-narrowest a e = the-one (subst (Best t p n (length t)) e choice-best)
+  -- of the whole table: what is chosen is the narrowest,
+  pub chosen-narrowest : (a : ℕ) → choice t p n ≡ some a → IsNarrowest t p n a
+  unfolding choice
+  chosen-narrowest a e = the-one (subst (Best t p n (length t / 16)) e (best-of (length t / 16)))
 
   -- and where nothing is chosen, nothing fits
-  pub chosen-none : choice t p n ≡ none → NoneOf t p n (length t)
-  chosen-none e = the-none (subst (Best t p n (length t)) e choice-best)
+  pub chosen-none : choice t p n ≡ none → NoneFits t p n
+  unfolding choice
+  chosen-none e = the-none (subst (Best t p n (length t / 16)) e (best-of (length t / 16)))
 
 -- what a search keeps of the records before its place: b is where the best of them begins and w how wide it is; before there is one, b is the
 -- table's end or lies behind it, and w is more than any width

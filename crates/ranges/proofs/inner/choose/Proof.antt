@@ -57,7 +57,8 @@ fits-requires c κs = room c
 
 width-at-requires : tie.Need-width-at-requires Inv-loop μ-loop
 width-at-requires c κs =
-    let a = c .before .before .before .before .before .args in
+    let l = c .before .before .before in
+    let a = l .before .before .args in
     (room (c .before .before), ends-in-order (a .t .now) _ (a .p) (a .n) (sym (c .before .fits2 .ensures) ∙ c .if1 .taken))
 
 cast-w : tie.Need-cast-w Inv-loop μ-loop
