@@ -1,4 +1,4 @@
--- The laws of `demand` and of the numbers, which every rule uses. Assumes nothing.
+-- The laws of `demand` and of the numbers, which every rule uses.
 use mathlib.Core.Path.{_≡_, refl, sym, ap, _∙_, subst⁻¹}
 use mathlib.Core.Bool.{Bool, true, false}
 use mathlib.Core.Logic.{_⊎_, _↔_, inl, inr, ⊎-elim}

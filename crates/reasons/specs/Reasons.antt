@@ -1,4 +1,4 @@
--- The numbered reasons of document 01, and what a call says in the paper's terms. Assumes nothing.
+-- The numbered reasons of document 01, and what a call says in the paper's terms.
 use Prim.Native.Nat.{ℕ, _≤_}
 use Prim.Native.String.{String}
 use mathlib.Core.Path.{_≡_}
@@ -7,7 +7,9 @@ use mathlib.Core.List.{List}
 use lib.ListN.{length, replicate}
 use Rattle.text.specs.Numbers.{put}
 use Rattle.reasons.specs.declared.Reason.{Reason}
-use Rattle.reasons.specs.declared.Reason.the-variants.{ShortOutput, BadCount, BadByte, WrongCheck, UnknownCountry, WrongLayout, BadBitCount, NoStart, CutShort, WrongParity, LongTrack, WrongLrc, MarksAfter, BadTable, NoRange, BadJournal, ZeroAmount, JournalFull, SerialsUsedUp, NoSerial}
+use Rattle.reasons.specs.declared.Reason.the-variants.{ShortOutput, BadCount, BadByte, WrongCheck, UnknownCountry, WrongLayout, BadBitCount}
+use Rattle.reasons.specs.declared.Reason.the-variants.{NoStart, CutShort, WrongParity, LongTrack, WrongLrc, MarksAfter, BadTable}
+use Rattle.reasons.specs.declared.Reason.the-variants.{NoRange, BadJournal, ZeroAmount, JournalFull, SerialsUsedUp, NoSerial}
 use Rattle.reasons.specs.declared.Phrase.{Phrase}
 use Rattle.reasons.specs.declared.Tested.{Tested}
 use Rattle.reasons.specs.declared.Tested.the-variants.{Passes, Refused}

@@ -1,9 +1,10 @@
 // The numbered reasons of document 01, their numbers and words; what a test answers.
 ghost use mathlib.Core.Path.{_≡_};
-ghost use Prim.Native.Nat.{_≤_};
-ghost use lib.ListN.{length};
+ghost use Prim.Native.Nat.{_+_, _≤_};
+ghost use lib.ListN.{length, drop};
 ghost use Rattle.text.specs.Bytes.{bytesOf};
 ghost use Rattle.reasons.specs.Reasons.{numberOf, numberIn, said, wordsOf, Phrases};
+ghost use Rattle.reasons.specs.Lines.{line, linesOf, inOrder};
 
 pub enum Reason {
     ShortOutput,
@@ -91,30 +92,72 @@ fn told(text: &[u8]) -> Phrase
     }
 }
 
+// The paper's words: those of reason n are line n, and line 0 is empty.
+fn table() -> [u8; 458]
+    ensures { λ r. ⌜ r ≡ linesOf inOrder ⌝ }
+{
+    *b"
+lent output or scratch too short
+count of digits or characters outside its range
+a byte that isn't allowed
+check digits wrong
+country not listed
+layout wrong
+bit count over 4,096 or over 8 times the bytes lent
+no start sentinel
+track cut short
+parity wrong
+track too long
+LRC wrong
+marks after the LRC
+range table's byte length not a multiple of 16, or over 65,536
+no range fits
+journal not well formed
+amount 0
+journal full
+serials used up
+serial not there"
+}
+
+// Where line n begins; the text's end where there is none.
+fn line_start(text: &[u8], n: u32) -> usize
+    ensures { λ r. ⌜ (r ≤ length (now (text .entry))) × (line 0 (drop r (now (text .entry))) ≡ line n (now (text .entry))) ⌝ }
+{
+    let mut left = n;
+    let mut at = 0;
+    while at < text.len() {
+        if left == 0 {
+            return at;
+        }
+        if text[at] == 10 {
+            left -= 1;
+        }
+        at += 1;
+    }
+    at
+}
+
+// Where the line that begins at `from` ends.
+fn line_end(text: &[u8], from: usize) -> usize
+    requires { ⌜ from ≤ length (now text) ⌝ }
+    ensures { λ r. ⌜ (r ≤ length (now (text .entry))) × (r ≡ from + length (line 0 (drop from (now (text .entry))))) ⌝ }
+{
+    let mut at = from;
+    while at < text.len() {
+        if text[at] == 10 {
+            return at;
+        }
+        at += 1;
+    }
+    at
+}
+
 // The paper's words of a reason.
 pub fn words(r: Reason) -> Phrase
     ensures { λ w. ⌜ Phrases (bytesOf (wordsOf r)) w ⌝ }
 {
-    match r {
-        Reason::ShortOutput => told(b"lent output or scratch too short"),
-        Reason::BadCount => told(b"count of digits or characters outside its range"),
-        Reason::BadByte => told(b"a byte that isn't allowed"),
-        Reason::WrongCheck => told(b"check digits wrong"),
-        Reason::UnknownCountry => told(b"country not listed"),
-        Reason::WrongLayout => told(b"layout wrong"),
-        Reason::BadBitCount => told(b"bit count over 4,096 or over 8 times the bytes lent"),
-        Reason::NoStart => told(b"no start sentinel"),
-        Reason::CutShort => told(b"track cut short"),
-        Reason::WrongParity => told(b"parity wrong"),
-        Reason::LongTrack => told(b"track too long"),
-        Reason::WrongLrc => told(b"LRC wrong"),
-        Reason::MarksAfter => told(b"marks after the LRC"),
-        Reason::BadTable => told(b"range table's byte length not a multiple of 16, or over 65,536"),
-        Reason::NoRange => told(b"no range fits"),
-        Reason::BadJournal => told(b"journal not well formed"),
-        Reason::ZeroAmount => told(b"amount 0"),
-        Reason::JournalFull => told(b"journal full"),
-        Reason::SerialsUsedUp => told(b"serials used up"),
-        Reason::NoSerial => told(b"serial not there"),
-    }
+    let lines = table();
+    let from = line_start(&lines, number(r));
+    let end = line_end(&lines, from);
+    told(&lines[from..end])
 }
