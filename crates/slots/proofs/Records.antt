@@ -1,14 +1,14 @@
 -- The record that a booking writes, and records told byte by byte. Assumes nothing.
-use Prim.Native.Nat.{ℕ, suc, _≤_, _<_, _+_, _-_}
+use Prim.Native.Nat.{ℕ, _≤_, _<_, _+_, _-_}
 use mathlib.Core.Path.{_≡_, refl, sym, ap, _∙_}
 use mathlib.Core.Bool.{Bool, true, false, _||_}
 use mathlib.Core.List.{List, [], _∷_, _++_, append-assoc}
 use native.Mathlib.Omega.{arith}
 use native.Mathlib.Decide.{decLt}
-use lib.ListN.{length, getD, take, drop, replicate, length-append, length-drop, length-replicate, getD-replicate, drop-of-length-le, List·getD-append}
-use lib.Seq.{drop-cons, drop-drop, drop-at, take-append-seam, drop-append-seam, getD-take, getD-drop, getD-append-add}
+use lib.ListN.{length, getD, set, take, drop, replicate, length-append, length-drop, length-replicate, replicate-append-replicate, getD-replicate, List·getD-append}
+use lib.Seq.{length-take-le, take-all, drop-drop, drop-at, take-append-seam, drop-append-seam, drop-append-add, getD-take, getD-drop, getD-append-add}
 use Rattle.text.specs.Bytes.{within, isDigit, allDigits}
-use Rattle.text.specs.Numbers.{u32At, le16, le32}
+use Rattle.text.specs.Numbers.{u32At, le16, le32, put}
 use Rattle.text.proofs.Tests.{under, over}
 use Rattle.text.proofs.Every.{every-at}
 use Rattle.text.proofs.Numbers.{u32-le32}
@@ -17,44 +17,57 @@ use Rattle.pan.proofs.Masked.{shown-fits, front-length}
 use Rattle.slots.specs.Record.{isHeld, isReleased, isRecord, heldState, lengthFits, frontKept, backKept, kept, serialAt, amountAt, lengthAt, stateAt, Good, record32, maskedOf}
 use Rattle.slots.proofs.States.{kept-fits, booked-held, booked-length, booked-front, booked-back}
 
--- ---- the digits shown
+-- ---- the bytes that a booking writes
 
--- the last four of n
-last-four : (s : List ℕ) (n : ℕ) → length s ≡ n → 4 ≤ n → drop (n - 4) s ≡ getD s (n - 4) 0 ∷ getD s (n - 3) 0 ∷ getD s (n - 2) 0 ∷ getD s (n - 1) 0 ∷ []
-last-four s n e h =
-    let a : suc (n - 4) ≡ n - 3 = omega arith in
-    let b : suc (n - 3) ≡ n - 2 = omega arith in
-    let c : suc (n - 2) ≡ n - 1 = omega arith in
-    drop-cons s (n - 4) 0 (omega arith)
-    ∙ ap (λ (l : List ℕ). getD s (n - 4) 0 ∷ l) (ap (λ (x : ℕ). drop x s) a ∙ drop-cons s (n - 3) 0 (omega arith)
-    ∙ ap (λ (l : List ℕ). getD s (n - 3) 0 ∷ l) (ap (λ (x : ℕ). drop x s) b ∙ drop-cons s (n - 2) 0 (omega arith)
-    ∙ ap (λ (l : List ℕ). getD s (n - 2) 0 ∷ l) (ap (λ (x : ℕ). drop x s) c ∙ drop-cons s (n - 1) 0 (omega arith)
-    ∙ ap (λ (l : List ℕ). getD s (n - 1) 0 ∷ l) (drop-of-length-le s {i = suc (n - 1)} (omega arith)))))
+-- the fields, written one after another over zeros: r has serial, clock and amount
+pub fields-are : (serial clock amount label n : ℕ) (s c r l : List ℕ) → s ≡ put (replicate 32 0) 0 (le32 serial) → c ≡ put s 4 (le32 clock)
+    → r ≡ put c 8 (le32 amount) → l ≡ le16 label
+    → set (set (set (set r 12 (getD l 0 0)) 13 (getD l 1 0)) 14 n) 15 1
+    ≡ le32 serial ++ (le32 clock ++ (le32 amount ++ (le16 label ++ (n ∷ heldState n ∷ replicate 16 0))))
+unfolding put le32 le16 heldState
+fields-are serial clock amount label n s c r l es ec er el =
+    rw (el, er, ec, es)
 
-first-six : (s : List ℕ) → 6 ≤ length s → take 6 s ≡ getD s 0 0 ∷ getD s 1 0 ∷ getD s 2 0 ∷ getD s 3 0 ∷ getD s 4 0 ∷ getD s 5 0 ∷ []
-first-six (a ∷ b ∷ c ∷ d ∷ e ∷ f ∷ s) h = refl
-first-six [] h = absurd (omega arith)
-first-six (a ∷ []) h = absurd (omega arith)
-first-six (a ∷ b ∷ []) h = absurd (omega arith)
-first-six (a ∷ b ∷ c ∷ []) h = absurd (omega arith)
-first-six (a ∷ b ∷ c ∷ d ∷ []) h = absurd (omega arith)
-first-six (a ∷ b ∷ c ∷ d ∷ e ∷ []) h = absurd (omega arith)
+-- zeros without k of them, and a run written behind w over zeros
+zeros-left : (k n : ℕ) → k ≤ n → drop {A = ℕ} k (replicate n 0) ≡ replicate (n - k) 0
+zeros-left k n h =
+    let all : k + (n - k) ≡ n = omega arith in
+    ap (drop k) (sym (replicate-append-replicate k (n - k) 0 ∙ ap (λ (m : ℕ). replicate m 0) all))
+    ∙ drop-at (replicate k 0) (replicate (n - k) 0) k (length-replicate k 0)
 
--- the bytes that the code lists
-pub record-is : (s c a l : ℕ) (pan bs bc ba bl : List ℕ) → bs ≡ le32 s → bc ≡ le32 c → ba ≡ le32 a → bl ≡ le16 l → 13 ≤ length pan →
-    getD bs 0 0 ∷ getD bs 1 0 ∷ getD bs 2 0 ∷ getD bs 3 0 ∷ getD bc 0 0 ∷ getD bc 1 0 ∷ getD bc 2 0 ∷ getD bc 3 0
-    ∷ getD ba 0 0 ∷ getD ba 1 0 ∷ getD ba 2 0 ∷ getD ba 3 0 ∷ getD bl 0 0 ∷ getD bl 1 0 ∷ length pan ∷ 1
-    ∷ getD pan 0 0 ∷ getD pan 1 0 ∷ getD pan 2 0 ∷ getD pan 3 0 ∷ getD pan 4 0 ∷ getD pan 5 0
-    ∷ getD pan (length pan - 4) 0 ∷ getD pan (length pan - 3) 0 ∷ getD pan (length pan - 2) 0 ∷ getD pan (length pan - 1) 0
-    ∷ 0 ∷ 0 ∷ 0 ∷ 0 ∷ 0 ∷ 0 ∷ [] ≡ record32 s c a l pan
+written : (w vs : List ℕ) (at n : ℕ) → at ≡ length w → length vs ≤ n → put (w ++ replicate n 0) at vs ≡ (w ++ vs) ++ replicate (n - length vs) 0
+unfolding put
+written w vs at n e h =
+    ap (λ (k : ℕ). put (w ++ replicate n 0) k vs) e
+    ∙ ap (λ (l : List ℕ). l ++ vs ++ drop (length w + length vs) (w ++ replicate n 0)) (take-append-seam w (replicate n 0))
+    ∙ ap (λ (l : List ℕ). (w ++ vs) ++ l) (drop-append-add w (replicate n 0) (length vs) ∙ zeros-left (length vs) n h)
+
+-- the digits, written behind the fields
+pub digits-are : (fields a b : List ℕ) (at from : ℕ) → at ≡ length fields → from ≡ length (fields ++ a) → length a + length b ≤ 16
+    → put (put (fields ++ replicate 16 0) at a) from b ≡ fields ++ ((a ++ b) ++ replicate (16 - length (a ++ b)) 0)
+digits-are fields a b at from ea eb h =
+    let left : 16 - length a - length b ≡ 16 - length (a ++ b) = omega (arith, length-append a b) in
+    ap (λ (l : List ℕ). put l from b) (written fields a at 16 ea (omega arith))
+    ∙ written (fields ++ a) b from (16 - length a) eb (omega arith)
+    ∙ ap (λ (k : ℕ). ((fields ++ a) ++ b) ++ replicate k 0) left
+    ∙ ap (λ (l : List ℕ). l ++ replicate (16 - length (a ++ b)) 0) (append-assoc fields a b)
+    ∙ append-assoc fields (a ++ b) (replicate (16 - length (a ++ b)) 0)
+
+pub record-is : (serial clock amount label : ℕ) (pan r p q : List ℕ) → 13 ≤ length pan
+    → r ≡ le32 serial ++ (le32 clock ++ (le32 amount ++ (le16 label ++ (length pan ∷ heldState (length pan) ∷ replicate 16 0))))
+    → p ≡ put r 16 (take 6 pan) → q ≡ put p 22 (take (length pan - (length pan - 4)) (drop (length pan - 4) pan))
+    → q ≡ record32 serial clock amount label pan
 unfolding record32 le32 le16 heldState frontShown backShown
-record-is s c a l pan bs bc ba bl es ec ea el h =
-    let ten : shown pan ≡ getD pan 0 0 ∷ getD pan 1 0 ∷ getD pan 2 0 ∷ getD pan 3 0 ∷ getD pan 4 0 ∷ getD pan 5 0
-    ∷ getD pan (length pan - 4) 0 ∷ getD pan (length pan - 3) 0 ∷ getD pan (length pan - 2) 0 ∷ getD pan (length pan - 1) 0 ∷ [] =
-    (λ i. first-six pan (omega arith) i ++ last-four pan (length pan) refl (omega arith) i) in
-    (λ i. getD (es i) 0 0 ∷ getD (es i) 1 0 ∷ getD (es i) 2 0 ∷ getD (es i) 3 0 ∷ getD (ec i) 0 0 ∷ getD (ec i) 1 0 ∷ getD (ec i) 2 0 ∷ getD (ec i) 3 0
-    ∷ getD (ea i) 0 0 ∷ getD (ea i) 1 0 ∷ getD (ea i) 2 0 ∷ getD (ea i) 3 0 ∷ getD (el i) 0 0 ∷ getD (el i) 1 0 ∷ length pan ∷ 1
-    ∷ (sym ten i ++ replicate (16 - length (sym ten i)) 0))
+record-is serial clock amount label pan r p q h is-fields is-front is-back =
+    let fields : List ℕ = le32 serial ++ (le32 clock ++ (le32 amount ++ (le16 label ++ (length pan ∷ heldState (length pan) ∷ [])))) in
+    let a : List ℕ = take 6 pan in
+    let b : List ℕ = drop (length pan - 4) pan in
+    let six : length a ≡ 6 = length-take-le 6 pan (omega arith) in
+    let four : length b ≡ 4 = length-drop (length pan - 4) pan ∙ omega arith in
+    is-back
+    ∙ ap (put p 22) (take-all (length pan - (length pan - 4)) b (omega arith))
+    ∙ ap (λ (l : List ℕ). put l 22 b) (is-front ∙ ap (λ (l : List ℕ). put l 16 a) is-fields)
+    ∙ digits-are fields a b 16 22 refl (sym (length-append fields a ∙ ap (λ (k : ℕ). 16 + k) six)) (omega arith)
 
 -- ---- what a record of a card number has
 

@@ -2,9 +2,10 @@
 ghost use mathlib.Core.Path.{_≡_};
 ghost use mathlib.Core.Bool.{true};
 ghost use Prim.Native.Nat.{ℕ, _+_, _*_, _-_, _≤_, _<_};
-ghost use lib.ListN.{length};
-ghost use Rattle.text.specs.Numbers.{u32At};
-ghost use Rattle.slots.specs.Record.{isHeld, isReleased, isRecord, freedState, lengthFits, kept, Zeros, Digits, Good, record32};
+ghost use mathlib.Core.List.{_∷_, _++_};
+ghost use lib.ListN.{length, replicate};
+ghost use Rattle.text.specs.Numbers.{u32At, le16, le32, put};
+ghost use Rattle.slots.specs.Record.{isHeld, isReleased, isRecord, heldState, freedState, lengthFits, kept, Zeros, Digits, Good, record32};
 ghost use Rattle.slots.specs.Journal.{Tells, sized, place, Stands, Ordered, NewestIs};
 ghost use Rattle.slots.specs.Writes.{wrote, recordWrites};
 
@@ -68,50 +69,42 @@ pub fn kept(x: u8) -> usize
 
 // ---- a record
 
+// A record with the number x in the four bytes from `at`.
+fn with_number(r: [u8; 32], at: usize, x: u32) -> [u8; 32]
+    requires { ⌜ at ≤ 28 ⌝ }
+    ensures { λ q. ⌜ q ≡ put r at (le32 x) ⌝ }
+{
+    let bytes = text::le32_of(x);
+    let mut q = r;
+    text::put_at(&mut q, at, &bytes);
+    q
+}
+
+// The fields of a record that is booked, held, of a PAN of n digits, over zeros in place of the digits.
+fn fields_of(serial: u32, clock: u32, amount: u32, label: u16, n: u8) -> [u8; 32]
+    ensures { λ r. ⌜ r ≡ le32 serial ++ (le32 clock ++ (le32 amount ++ (le16 label ++ (n ∷ heldState n ∷ replicate 16 0)))) ⌝ }
+{
+    let s = with_number([0u8; 32], 0, serial);
+    let c = with_number(s, 4, clock);
+    let mut r = with_number(c, 8, amount);
+    let l = text::le16_of(label);
+    r[12] = l[0];
+    r[13] = l[1];
+    r[14] = n;
+    r[15] = 1;
+    r
+}
+
 // The 32 bytes of a record that is booked: held.
 pub fn record_of(serial: u32, clock: u32, amount: u32, label: u16, pan: &[u8]) -> [u8; 32]
     requires { ⌜ (13 ≤ length (now pan)) × (length (now pan) ≤ 19) ⌝ }
     ensures { λ r. ⌜ r ≡ record32 serial clock amount label (now (pan .entry)) ⌝ }
 {
     let n = pan.len();
-    let s = text::le32_of(serial);
-    let c = text::le32_of(clock);
-    let a = text::le32_of(amount);
-    let l = text::le16_of(label);
-    [
-        s[0],
-        s[1],
-        s[2],
-        s[3],
-        c[0],
-        c[1],
-        c[2],
-        c[3],
-        a[0],
-        a[1],
-        a[2],
-        a[3],
-        l[0],
-        l[1],
-        n as u8,
-        1,
-        pan[0],
-        pan[1],
-        pan[2],
-        pan[3],
-        pan[4],
-        pan[5],
-        pan[n - 4],
-        pan[n - 3],
-        pan[n - 2],
-        pan[n - 1],
-        0,
-        0,
-        0,
-        0,
-        0,
-        0,
-    ]
+    let mut r = fields_of(serial, clock, amount, label, n as u8);
+    text::put_at(&mut r, 16, &pan[..6]);
+    text::put_at(&mut r, 22, &pan[n - 4..]);
+    r
 }
 
 // Writes a record into the slot at `at`, its state byte last: the order in which memory that outlives the power is to be written.

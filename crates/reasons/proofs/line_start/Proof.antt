@@ -1,5 +1,5 @@
 -- `line_start`: the lines still to pass over are counted down at each break.
-use Prim.Native.Nat.{ℕ, suc, _+_, _-_, _≤_}
+use Prim.Native.Nat.{ℕ, suc, _-_, _≤_}
 use borrow.Author.Needs.{needs}
 use lib.ListN.{length, drop}
 use mathlib.Core.Path.{_≡_, refl, sym, ap, _∙_}
