@@ -6,9 +6,10 @@ use mathlib.Core.List.{List, [], _++_}
 use native.Mathlib.Omega.{arith}
 use lib.ListN.{length, replicate}
 use Rattle.history.specs.History.{Done}
-use Rattle.replay.specs.Script.{clockAt, TotalsOf, Nothing, Bounded, Adds, replayRule}
-use Rattle.replay.specs.declared.Totals.{Totals}
-use Rattle.replay.proofs.Scripts.{bounded-none, bounded-more, totals-append, broken, too-many, whole}
+use Rattle.plays.specs.Script.{clockAt, TotalsOf, Nothing, Bounded, Adds, scriptRule}
+use Rattle.plays.specs.declared.Totals.{Totals}
+use Rattle.plays.proofs.Sums.{bounded-none, bounded-more, totals-append}
+use Rattle.plays.proofs.Records.{broken, too-many, whole}
 use Rattle.ledger.specs.declared.Ledger.{Ledger}
 use Rattle.exchange.specs.Exchange.{State, asState, cleared, turnAt, Runs, no-record, one-more, RunsAll, Exchanges, ran, not-whole, too-long}
 use Rattle.exchange.specs.Inner.{leaves, Took}
@@ -71,10 +72,10 @@ going-done s site acquirer v i zero r u k b g h =
 -- ---- what run says
 
 module _ (s site acquirer t j a : List ℕ) (l : Ledger) where
-  pub rule-not-whole : (length s % 128 ≡ 0 → ⊥) → Exchanges s site acquirer t j a l (replayRule s) NotWhole t j a
+  pub rule-not-whole : (length s % 128 ≡ 0 → ⊥) → Exchanges s site acquirer t j a l (scriptRule s) NotWhole t j a
   rule-not-whole h = subst⁻¹ (λ o. Exchanges s site acquirer t j a l o NotWhole t j a) (broken s h) not-whole
 
-  pub rule-too-long : length s % 128 ≡ 0 → 1048576 < length s / 128 → Exchanges s site acquirer t j a l (replayRule s) TooLong t j a
+  pub rule-too-long : length s % 128 ≡ 0 → 1048576 < length s / 128 → Exchanges s site acquirer t j a l (scriptRule s) TooLong t j a
   rule-too-long e h = subst⁻¹ (λ o. Exchanges s site acquirer t j a l o TooLong t j a) (too-many s e h) too-long
 
   -- the air was cleared first
@@ -83,5 +84,5 @@ module _ (s site acquirer t j a : List ℕ) (l : Ledger) where
   cleared-ran c r u k b e w = subst (λ (x : List ℕ). RunsAll s site acquirer (asState t j x l false) r u k b) e w
 
   pub rule-ran : (r : Sums) (u k b : List ℕ) → length s % 128 ≡ 0 → length s / 128 ≤ 1048576 → RunsAll s site acquirer (cleared t j a l) r u k b
-      → Exchanges s site acquirer t j a l (replayRule s) (Ran r) u k b
+      → Exchanges s site acquirer t j a l (scriptRule s) (Ran r) u k b
   rule-ran r u k b e h w = subst⁻¹ (λ o. Exchanges s site acquirer t j a l o (Ran r) u k b) (whole s e h) (ran w)

@@ -14,7 +14,7 @@ use Rattle.text.specs.Numbers.{u32At}
 use Rattle.slots.proofs.Ranges.{differ}
 use Rattle.history.specs.History.{Done, Payment, booked, highest, takings, Demand3}
 use Rattle.history.proofs.Laws.{demand-3}
-use Rattle.replay.specs.Script.{clockAt, replayRule}
+use Rattle.plays.specs.Script.{clockAt, scriptRule}
 use Rattle.ledger.specs.Ledger.{HeldRecord, opened}
 use Rattle.ledger.specs.declared.Ledger.{Ledger}
 use Rattle.channel.specs.Channel.{World, start, Act, Course, nothing-yet}
@@ -30,9 +30,9 @@ use Rattle.exchange.proofs.Linked.{worldOf, Linked, own-turn, turn-foll
 
 -- any two outcomes that running a script allows are equal: answer, scratch, journal and air
 pub run-one : (s site acquirer t j a : List ℕ) (l : Ledger) (r q : Exchanged) (u v k m b c : List ℕ)
-    → Exchanges s site acquirer t j a l (replayRule s) r u k b → Exchanges s site acquirer t j a l (replayRule s) q v m c
+    → Exchanges s site acquirer t j a l (scriptRule s) r u k b → Exchanges s site acquirer t j a l (scriptRule s) q v m c
     → (r ≡ q) × (u ≡ v) × (k ≡ m) × (b ≡ c)
-run-one s site acquirer t j a l = one.run-one s site acquirer t j a l (replayRule s)
+run-one s site acquirer t j a l = one.run-one s site acquirer t j a l (scriptRule s)
 
 -- ---- a script from an empty journal and a fresh ledger is a course of events
 

@@ -26,7 +26,7 @@ use Rattle.journal.specs.Held.{recordAt, heldAfter, heldList, lowOf}
 use Rattle.journal.specs.Rules.{showRule, heldIn}
 use Rattle.journal.proofs.Rule.{shown-in}
 use Rattle.history.specs.History.{Call, book, release, aside, Done}
-use Rattle.replay.specs.Script.{kindAt, panAt, labelAt, amountAt, serialAt, swipeAt, callAt}
+use Rattle.plays.specs.Script.{kindAt, panAt, labelAt, amountAt, serialAt, swipeAt, callAt}
 use Rattle.layout.specs.declared.Track.the-variants.{Two, One}
 use Rattle.ledger.specs.Ledger.{HeldRecord, wants, Takes}
 use Rattle.ledger.specs.declared.Ledger.{Ledger}

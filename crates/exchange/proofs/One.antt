@@ -7,8 +7,8 @@ use Rattle.reasons.specs.Reasons.{Outcome}
 use Rattle.slots.proofs.Views.{one-view}
 use Rattle.history.specs.History.{Call, release, Done}
 use Rattle.history.proofs.One.{one-outcome}
-use Rattle.replay.specs.Script.{clockAt, scratchLeft, TotalsOf}
-use Rattle.replay.proofs.One.{totals-one}
+use Rattle.plays.specs.Script.{clockAt, scratchLeft, TotalsOf}
+use Rattle.plays.proofs.Sums.{totals-one}
 use Rattle.ledger.specs.declared.Ledger.{Ledger}
 use Rattle.ledger.proofs.Laws.{take-one}
 use Rattle.channel.specs.Channel.{made}

@@ -16,8 +16,8 @@ use Rattle.journal.specs.Rules.{showRule, saidShown, Finds}
 use Rattle.journal.specs.declared.Shown.{Shown}
 use Rattle.journal.specs.declared.Shown.the-variants.{At, Refused}
 use Rattle.history.specs.History.{Call, release, aside, takings, booked, freedCount, freedSum}
-use Rattle.replay.specs.Script.{kindAt, serialAt, callAt, refusedCount, skippedCount, TotalsOf, Nothing, Bounded, PlaysOne}
-use Rattle.replay.specs.declared.Totals.{Totals}
+use Rattle.plays.specs.Script.{kindAt, serialAt, callAt, refusedCount, skippedCount, TotalsOf, Nothing, Bounded, PlaysOne}
+use Rattle.plays.specs.declared.Totals.{Totals}
 use Rattle.ledger.specs.Ledger.{Takes}
 use Rattle.ledger.specs.declared.Ledger.{Ledger}
 use Rattle.ledger.specs.declared.Taken.{Taken}

@@ -10,7 +10,7 @@ use Rattle.reasons.specs.Reasons.{Outcome, gives, refuses, after}
 use Rattle.slots.specs.Views.{Seen}
 use Rattle.journal.specs.Rules.{showRule}
 use Rattle.history.specs.History.{Call, release, aside, AnswerTo, Does, Done}
-use Rattle.replay.specs.Script.{kindAt, serialAt, clockAt, callAt, scratchLeft, TotalsOf}
+use Rattle.plays.specs.Script.{kindAt, serialAt, clockAt, callAt, scratchLeft, TotalsOf}
 use Rattle.ledger.specs.Ledger.{opened, Takes}
 use Rattle.ledger.specs.declared.Ledger.{Ledger}
 use Rattle.ledger.specs.declared.Taken.{Taken}

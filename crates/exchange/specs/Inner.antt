@@ -2,7 +2,7 @@
 use Prim.Native.Nat.{ℕ}
 use mathlib.Core.List.{List}
 use Rattle.history.specs.History.{Done}
-use Rattle.replay.specs.Script.{TotalsOf, Bounded}
+use Rattle.plays.specs.Script.{TotalsOf, Bounded}
 use Rattle.exchange.specs.Exchange.{State, asState, Turn, Turns}
 use Rattle.exchange.specs.declared.Step.{Step}
 

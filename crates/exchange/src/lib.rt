@@ -3,11 +3,11 @@
 use journal::Shown;
 use ledger::Ledger;
 use ledger::Taken;
-use replay::Totals;
-use replay::inner::add;
-use replay::inner::counted;
-use replay::inner::play;
-use replay::inner::play_release;
+use plays::Totals;
+use plays::add;
+use plays::counted;
+use plays::play;
+use plays::play_release;
 ghost use mathlib.Core.Path.{_≡_};
 ghost use mathlib.Core.Bool.{false, cond, _||_};
 ghost use mathlib.Core.List.{List};
@@ -17,7 +17,7 @@ ghost use lib.ListN.{length, take, drop, replicate};
 ghost use Rattle.reasons.specs.Reasons.{after};
 ghost use Rattle.slots.specs.Views.{Seen};
 ghost use Rattle.journal.specs.Rules.{showRule};
-ghost use Rattle.replay.specs.Script.{serialAt, clockAt, Nothing, PlaysOne, replayRule};
+ghost use Rattle.plays.specs.Script.{serialAt, clockAt, Nothing, PlaysOne, scriptRule};
 ghost use Rattle.exchange.specs.Exchange.{asState, deliver, answer, ownAt, turnAt, posted, RunsAll, Exchanges, Agrees};
 ghost use Rattle.exchange.specs.Inner.{Took};
 
@@ -253,7 +253,7 @@ pub fn run(
 ) -> Exchanged
     ensures { λ r. ⌜ Exchanges (now (script .entry)) (now (site .entry)) (now (acquirer .entry))
         (now (scratch .entry)) (now (journal .entry)) (now (air .entry)) ledger
-        (replayRule (now (script .entry))) r (now (scratch .exit)) (now (journal .exit)) (now (air .exit)) ⌝ }
+        (scriptRule (now (script .entry))) r (now (scratch .exit)) (now (journal .exit)) (now (air .exit)) ⌝ }
     ensures { λ r. ⌜ Agrees (now (script .entry)) (now (site .entry)) (now (acquirer .entry))
         (now (scratch .entry)) (now (journal .entry)) (now (air .entry)) ledger
         r (now (scratch .exit)) (now (journal .exit)) (now (air .exit)) ⌝ }

@@ -1,13 +1,14 @@
--- What a replayed script keeps, and that it allows one outcome. Assumes nothing.
+-- What a replayed script keeps, and that it allows one outcome.
 use Prim.Native.Nat.{ℕ, _*_, _≤_}
 use mathlib.Core.Path.{_≡_}
 use mathlib.Core.List.{List}
 use lib.ListN.{replicate}
 use Rattle.history.specs.History.{Demand3}
 use Rattle.history.proofs.Laws.{demand-3}
-use Rattle.replay.specs.declared.Totals.{Totals}
+use Rattle.plays.specs.declared.Totals.{Totals}
 use Rattle.replay.specs.declared.Replayed.{Replayed}
-use Rattle.replay.specs.Script.{PlaysAll, replayRule, Replays}
+use Rattle.plays.specs.Script.{scriptRule}
+use Rattle.replay.specs.Replay.{PlaysAll, Replays}
 use Rattle.replay.proofs.One.{one-replay}
 use Rattle.replay.proofs.Scripts.{plays-run}
 
@@ -18,5 +19,5 @@ replay-keeps n l h s site acquirer t r u k w = demand-3 n l h (w .done) k (plays
 
 -- any two outcomes that replay allows are equal: answer, scratch and journal
 pub replay-one : (s site acquirer t j : List ℕ) (r q : Replayed) (u v k l : List ℕ)
-    → Replays s site acquirer t j (replayRule s) r u k → Replays s site acquirer t j (replayRule s) q v l → (r ≡ q) × (u ≡ v) × (k ≡ l)
-replay-one s site acquirer t j = one-replay s site acquirer t j (replayRule s)
+    → Replays s site acquirer t j (scriptRule s) r u k → Replays s site acquirer t j (scriptRule s) q v l → (r ≡ q) × (u ≡ v) × (k ≡ l)
+replay-one s site acquirer t j = one-replay s site acquirer t j (scriptRule s)

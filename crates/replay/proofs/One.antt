@@ -1,14 +1,15 @@
--- Each script allows one outcome. Assumes nothing.
+-- Each script allows one outcome.
 use Prim.Native.Nat.{ℕ, _+_}
 use mathlib.Core.Path.{_≡_, refl, sym, ap, _∙_, subst}
 use mathlib.Core.List.{List, _∷_}
 use Rattle.reasons.specs.Reasons.{Outcome}
 use Rattle.history.specs.History.{Call, AnswerTo, Does, Done}
 use Rattle.history.proofs.One.{one-outcome}
-use Rattle.replay.specs.declared.Totals.{Totals}
+use Rattle.plays.proofs.Sums.{totals-one}
 use Rattle.replay.specs.declared.Replayed.{Replayed}
 use Rattle.replay.specs.declared.Replayed.the-variants.{Played}
-use Rattle.replay.specs.Script.{scratchLeft, Plays, no-record, one-record, TotalsOf, Replays, played, not-whole, too-long}
+use Rattle.plays.specs.Script.{scratchLeft, TotalsOf}
+use Rattle.replay.specs.Replay.{Plays, no-record, one-record, Replays, played, not-whole, too-long}
 
 -- a call that was made is told by its clock reading and its arguments
 one-done : (j : List ℕ) (d : Done) (t : ℕ) (c : Call) → d .clock ≡ t → d .call ≡ c → Does j (d .clock) (d .call) (d .answer) (d .after)
@@ -27,16 +28,6 @@ plays-one {s} {site} {acquirer} {t} {j} {u} {k} {v} {l} (one-record {i = i} {m =
     let de : d ≡ e = one-done j d (e .clock) (e .call) (et ∙ sym ft) (ec ∙ sym fc) w (e .answer) (e .after) x in
     let r = plays-one (subst (λ (y : Done). Plays s site acquirer (i + 1) m (scratchLeft (y .call) (y .answer) t) (y .after) ds u k) de p) q in
     ((λ n. de n ∷ r .0 n), r .1, r .2)
-
-pub totals-one : (ds : List Done) (r q : Totals) → TotalsOf ds r → TotalsOf ds q → r ≡ q
-totals-one ds r q a b = λ i. record {
-  booked = (a .booked-is ∙ sym (b .booked-is)) i;
-  takings = (a .takings-is ∙ sym (b .takings-is)) i;
-  released = (a .released-is ∙ sym (b .released-is)) i;
-  remitted = (a .remitted-is ∙ sym (b .remitted-is)) i;
-  refused = (a .refused-is ∙ sym (b .refused-is)) i;
-  skipped = (a .skipped-is ∙ sym (b .skipped-is)) i;
-}
 
 pub one-replay : (s site acquirer t j : List ℕ) (o : Outcome (Unit {0})) (r q : Replayed) (u v k l : List ℕ)
     → Replays s site acquirer t j o r u k → Replays s site acquirer t j o q v l → (r ≡ q) × (u ≡ v) × (k ≡ l)

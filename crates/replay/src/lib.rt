@@ -1,23 +1,12 @@
 // Replays a script of calls, one after another, and answers what they came to.
-pub mod inner;
-
+use plays::Totals;
 ghost use mathlib.Core.Path.{_≡_};
 ghost use Prim.Native.Nat.{ℕ, _/_, _%_, _≤_};
 ghost use lib.ListN.{length};
 ghost use Rattle.slots.specs.Journal.{NewestIs};
 ghost use Rattle.slots.specs.declared.Newest.the-variants.{Is};
-ghost use Rattle.replay.specs.Script.{replayRule, PlaysAll, Replays, Conserves};
-
-// What calls came to: the payments booked and their amounts, those released and their amounts as the releases answered, the calls refused, and
-// the records that made no call.
-pub struct Totals {
-    pub booked: u64,
-    pub takings: u64,
-    pub released: u64,
-    pub remitted: u64,
-    pub refused: u64,
-    pub skipped: u64,
-}
+ghost use Rattle.plays.specs.Script.{scriptRule};
+ghost use Rattle.replay.specs.Replay.{PlaysAll, Replays, Conserves};
 
 // The totals, or why no record was played: the script is no whole number of records, or it has too many for the totals.
 pub enum Replayed {
@@ -38,11 +27,11 @@ fn play_all(
         r (now (scratch .exit)) (now (journal .exit)) ⌝ }
 {
     let n = script.len() / 128;
-    let mut t = inner::counted(0, 0, 0, 0);
+    let mut t = plays::counted(0, 0, 0, 0);
     let mut i: usize = 0;
     while i < n {
-        let u = inner::play(script, 128 * i, site, acquirer, scratch, journal);
-        t = inner::add(t, u);
+        let u = plays::play(script, 128 * i, site, acquirer, scratch, journal);
+        t = plays::add(t, u);
         i += 1;
     }
     t
@@ -57,7 +46,7 @@ pub fn replay(
     journal: &mut [u8],
 ) -> Replayed
     ensures { λ r. ⌜ Replays (now (script .entry)) (now (site .entry)) (now (acquirer .entry)) (now (scratch .entry)) (now (journal .entry))
-        (replayRule (now (script .entry))) r (now (scratch .exit)) (now (journal .exit)) ⌝ }
+        (scriptRule (now (script .entry))) r (now (scratch .exit)) (now (journal .exit)) ⌝ }
     ensures { λ r. ⌜ ((b : ℕ) → NewestIs (now (journal .entry)) (Is b) → Conserves b (now (journal .entry)) r (now (journal .exit))) ⌝ }
 {
     let len = script.len();

@@ -2,8 +2,8 @@
 // the journal is full for a while. Nothing is lost.
 use crate::records;
 use journal::Told;
+use plays::Totals;
 use replay::Replayed;
-use replay::Totals;
 
 // The spring, a byte a call: `p` a payment, `?` a record of no known kind, any other a release up to its number less that of `@`: D is 4.
 const SPRING: [u8; 50] = *b"ppppppppppppDppppppppppJJppppppIZppppppppppppppa~?";

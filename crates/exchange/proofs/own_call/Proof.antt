@@ -1,7 +1,7 @@
 use mathlib.Core.Path.{refl}
 use native.Mathlib.Omega.{arith}
 use Rattle.history.specs.History.{aside}
-use Rattle.replay.proofs.Scripts.{as-call, nothing-came}
+use Rattle.plays.proofs.Records.{as-call, nothing-came}
 use Rattle.exchange.proofs.Turned.{passed-over, made-as-asked}
 use borrow.Author.Needs.{needs}
 use Rattle.exchange.proofs.own_call.Statement.{statement}

@@ -2,7 +2,7 @@ use Prim.Native.Nat.{_-_, _/_, _≤_}
 use native.Mathlib.Omega.{arith}
 use lib.ListN.{length}
 use borrow.Author.Needs.{needs}
-use Rattle.replay.proofs.Scripts.{bounded-fits}
+use Rattle.plays.proofs.Sums.{bounded-fits}
 use Rattle.exchange.specs.Exchange.{asState}
 use Rattle.exchange.proofs.Going.{Going, going-start, going-turn, going-done}
 use Rattle.exchange.proofs.run_all.Statement.{statement}

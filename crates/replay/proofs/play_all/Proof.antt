@@ -2,7 +2,8 @@ use Prim.Native.Nat.{_-_, _/_, _≤_}
 use native.Mathlib.Omega.{arith}
 use lib.ListN.{length}
 use borrow.Author.Needs.{needs}
-use Rattle.replay.proofs.Scripts.{bounded-fits, Going, going-start, going-turn, going-done}
+use Rattle.plays.proofs.Sums.{bounded-fits}
+use Rattle.replay.proofs.Scripts.{Going, going-start, going-turn, going-done}
 use Rattle.replay.proofs.play_all.Statement.{statement}
 use Rattle.replay.proofs.play_all.Tie as tie
 

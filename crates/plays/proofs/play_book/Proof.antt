@@ -1,7 +1,7 @@
-use Rattle.replay.proofs.Scripts.{same-book, pan-is, book-refused-came, booked-came}
+use Rattle.plays.proofs.Records.{same-book, pan-is, book-refused-came, booked-came}
 use borrow.Author.Needs.{needs}
-use Rattle.replay.proofs.inner.play_book.Statement.{statement}
-use Rattle.replay.proofs.inner.play_book.Tie as tie
+use Rattle.plays.proofs.play_book.Statement.{statement}
+use Rattle.plays.proofs.play_book.Tie as tie
 
 abbrev answered : tie.After-slice-known2 → tie.After-book
 answered c = c .before .before

@@ -1,8 +1,8 @@
 use Prim.Native.Nat.{_+_}
 use native.Mathlib.Omega.{arith}
 use borrow.Author.Needs.{needs}
-use Rattle.replay.proofs.inner.pan_length.Statement.{statement}
-use Rattle.replay.proofs.inner.pan_length.Tie as tie
+use Rattle.plays.proofs.pan_length.Statement.{statement}
+use Rattle.plays.proofs.pan_length.Tie as tie
 
 add-n : tie.Need-add-n
 add-n c = search needs

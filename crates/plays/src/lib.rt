@@ -1,5 +1,4 @@
-// For the crates above too: one record of a script played, and the totals of calls added.
-use crate::Totals;
+// One record of a script of calls played, and the totals of calls. For the crates above: all of it is inner.
 use journal::Booked;
 use journal::Released;
 use layout::Track;
@@ -9,9 +8,20 @@ ghost use mathlib.Core.List.{List};
 ghost use Prim.Native.Nat.{ℕ, min, _+_, _≤_};
 ghost use lib.ListN.{getD, length};
 ghost use Rattle.history.specs.History.{book, release};
-ghost use Rattle.replay.specs.Script.{panAt, labelAt, amountAt, clockAt, serialAt, swipeAt, callAt, PlaysOne, Fits, Adds};
+ghost use Rattle.plays.specs.Script.{panAt, labelAt, amountAt, clockAt, serialAt, swipeAt, callAt, PlaysOne, Fits, Adds};
 
 // ---- totals
+
+// What calls came to: the payments booked and their amounts, those released and their amounts as the releases answered, the calls refused, and
+// the records that made no call.
+pub struct Totals {
+    pub booked: u64,
+    pub takings: u64,
+    pub released: u64,
+    pub remitted: u64,
+    pub refused: u64,
+    pub skipped: u64,
+}
 
 // Of one record, unless it is a release that was not refused.
 pub fn counted(booked: u64, takings: u64, refused: u64, skipped: u64) -> Totals

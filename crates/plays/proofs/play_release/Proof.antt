@@ -1,8 +1,8 @@
 use native.Mathlib.Omega.{arith}
-use Rattle.replay.proofs.Scripts.{same-release, release-refused-came, released-came}
+use Rattle.plays.proofs.Records.{same-release, release-refused-came, released-came}
 use borrow.Author.Needs.{needs}
-use Rattle.replay.proofs.inner.play_release.Statement.{statement}
-use Rattle.replay.proofs.inner.play_release.Tie as tie
+use Rattle.plays.proofs.play_release.Statement.{statement}
+use Rattle.plays.proofs.play_release.Tie as tie
 
 abbrev answered : tie.After-slice-known2 → tie.After-release
 answered c = c .before .before

@@ -1,23 +1,18 @@
--- A script of calls, records of 128 bytes, and what replaying it comes to. Assumes nothing.
-use Prim.Native.Nat.{ℕ, suc, min, _+_, _*_, _/_, _%_, _≤_, _<_}
+-- A script of calls, records of 128 bytes: the call in a record, and what calls come to.
+use Prim.Native.Nat.{ℕ, min, _+_, _*_, _/_, _%_, _≤_, _<_}
 use mathlib.Core.Path.{_≡_}
 use mathlib.Core.Bool.{cond}
 use mathlib.Core.List.{List, [], _∷_}
 use lib.Dec.{eqb, leb}
 use lib.ListN.{getD, length, take, drop}
 use Rattle.text.specs.Numbers.{u16At, u32At}
-use Rattle.reasons.specs.Reasons.{Outcome, gives, refuses, demand}
-use Rattle.slots.specs.Journal.{NewestIs}
-use Rattle.slots.specs.declared.Newest.the-variants.{Is}
-use Rattle.journal.specs.Held.{heldList, sumOf}
+use Rattle.reasons.specs.Reasons.{Outcome, gives, demand}
 use Rattle.layout.specs.declared.Track.{Track}
 use Rattle.layout.specs.declared.Track.the-variants.{Two, One}
 use Rattle.swipe.specs.Swipe.{given}
 use Rattle.history.specs.History.{Call, book, swipe, release, reads, aside, AnswerTo, Does, Done}
 use Rattle.history.specs.History.{Effect, booked-one, released-to, nothing, effectOf, booked, takings, freedCount, freedSum}
-use Rattle.replay.specs.declared.Totals.{Totals}
-use Rattle.replay.specs.declared.Replayed.{Replayed}
-use Rattle.replay.specs.declared.Replayed.the-variants.{Played, NotWhole, TooLong}
+use Rattle.plays.specs.declared.Totals.{Totals}
 
 -- ---- the script
 
@@ -63,30 +58,13 @@ callAt s site acquirer scratch at =
     aside)))
 
 -- "a script too long for its sums is refused by a number of its own", 99; one that is no whole number of records with 6, before that
-unfoldable pub replayRule : List ℕ → Outcome (Unit {0})
-replayRule s =
+unfoldable pub scriptRule : List ℕ → Outcome (Unit {0})
+scriptRule s =
     demand (eqb (length s % 128) 0) 6
     (demand (leb (length s / 128) 1048576) 99
     (gives tt))
 
--- ---- its calls, one after another
-
--- the scratch after a call
-abbrev pub scratchLeft : (c : Call) → AnswerTo c → List ℕ → List ℕ
-scratchLeft (book pan label amount) r t = t
-scratchLeft (swipe card amount scratch) r t = r .scratch
-scratchLeft (release s) r t = t
-scratchLeft (reads q) r t = t
-scratchLeft aside r t = t
-
--- the m records from number i on, played on the scratch t and the journal j, are the calls ds and leave the scratch u and the journal k
-pub data Plays (s site acquirer : List ℕ) : ℕ → ℕ → List ℕ → List ℕ → List Done → List ℕ → List ℕ → Type 0 where
-  no-record : {i : ℕ} {t j : List ℕ} → Plays s site acquirer i 0 t j [] t j
-  one-record : {i m : ℕ} {t j u k : List ℕ} {ds : List Done} (d : Done)
-      → d .call ≡ callAt s site acquirer t (128 * i) → d .clock ≡ clockAt s (128 * i) → Does j (d .clock) (d .call) (d .answer) (d .after)
-      → Plays s site acquirer (i + 1) m (scratchLeft (d .call) (d .answer) t) (d .after) ds u k → Plays s site acquirer i (suc m) t j (d ∷ ds) u k
-
--- ---- what they come to
+-- ---- what calls come to
 
 -- a booking, a swipe or a release that did nothing was refused
 abbrev pub idle : Effect → ℕ
@@ -125,32 +103,15 @@ pub record TotalsOf (ds : List Done) (r : Totals) : Type 0 where
   pub refused-is : r .refused ≡ refusedCount ds
   pub skipped-is : r .skipped ≡ skippedCount ds
 
--- ---- the promises
+-- ---- what the functions promise
 
--- all records of the script were played, and r are the totals of their calls
-pub record PlaysAll (s site acquirer t j : List ℕ) (r : Totals) (u k : List ℕ) : Type 0 where
-  pub done : List Done
-  pub plays : Plays s site acquirer 0 (length s / 128) t j done u k
-  pub totals : TotalsOf done r
-
--- what replaying a script allows; a refusal changes nothing
-pub data Replays (s site acquirer t j : List ℕ) : Outcome (Unit {0}) → Replayed → List ℕ → List ℕ → Type 0 where
-  played : {r : Totals} {u k : List ℕ} → PlaysAll s site acquirer t j r u k → Replays s site acquirer t j (gives tt) (Played r) u k
-  not-whole : Replays s site acquirer t j (refuses 6) NotWhole t j
-  too-long : Replays s site acquirer t j (refuses 99) TooLong t j
-
--- held before + booked = held after + released, in number and in amount, of a journal whose newest serial was b
-pub record Conserved (b : ℕ) (j : List ℕ) (r : Totals) (k : List ℕ) : Type 0 where
-  pub newest : NewestIs k (Is (b + r .booked))
-  pub counts : length (heldList j b) + r .booked ≡ length (heldList k (b + r .booked)) + r .released
-  pub sums : sumOf (heldList j b) + r .takings ≡ sumOf (heldList k (b + r .booked)) + r .remitted
-
-abbrev pub Conserves : ℕ → List ℕ → Replayed → List ℕ → Type 0
-Conserves b j (Played r) k = Conserved b j r k
-Conserves b j NotWhole k = k ≡ j
-Conserves b j TooLong k = k ≡ j
-
--- ---- what the inner functions promise
+-- the scratch after a call
+abbrev pub scratchLeft : (c : Call) → AnswerTo c → List ℕ → List ℕ
+scratchLeft (book pan label amount) r t = t
+scratchLeft (swipe card amount scratch) r t = r .scratch
+scratchLeft (release s) r t = t
+scratchLeft (reads q) r t = t
+scratchLeft aside r t = t
 
 -- nothing was booked or released
 abbrev pub Nothing : ℕ → ℕ → Totals → Type 0

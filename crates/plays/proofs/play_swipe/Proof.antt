@@ -1,8 +1,8 @@
 use Rattle.swipe.specs.Swipe.{given}
-use Rattle.replay.proofs.Scripts.{same-swipe, stream-is, swipe-refused-came, swiped-came}
+use Rattle.plays.proofs.Records.{same-swipe, stream-is, swipe-refused-came, swiped-came}
 use borrow.Author.Needs.{needs}
-use Rattle.replay.proofs.inner.play_swipe.Statement.{statement}
-use Rattle.replay.proofs.inner.play_swipe.Tie as tie
+use Rattle.plays.proofs.play_swipe.Statement.{statement}
+use Rattle.plays.proofs.play_swipe.Tie as tie
 
 abbrev start : tie.After-u32-at → tie.Start
 start c = c .before .before .before .before .before .before

@@ -2,10 +2,10 @@ use mathlib.Core.Path.{refl}
 use native.Mathlib.Omega.{arith}
 use Rattle.layout.specs.declared.Track.the-variants.{Two, One}
 use Rattle.history.specs.History.{aside}
-use Rattle.replay.proofs.Scripts.{as-call, is-book, is-release, is-swipe, is-none, nothing-came}
+use Rattle.plays.proofs.Records.{as-call, is-book, is-release, is-swipe, is-none, nothing-came}
 use borrow.Author.Needs.{needs}
-use Rattle.replay.proofs.inner.play.Statement.{statement}
-use Rattle.replay.proofs.inner.play.Tie as tie
+use Rattle.plays.proofs.play.Statement.{statement}
+use Rattle.plays.proofs.play.Tie as tie
 
 abbrev start : tie.After-shared-slice-known4 → tie.Start
 start c = c .before .before .before .before .before .before
