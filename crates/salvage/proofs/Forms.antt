@@ -15,16 +15,30 @@ use Rattle.slots.proofs.Form.{is-sized}
 use Rattle.slots.proofs.Ring.{kept-at}
 use Rattle.slots.proofs.States.{not-both}
 use Rattle.journal.specs.Survey.{Belongs}
-use Rattle.salvage.specs.Slot.{toldAt}
+use Rattle.remains.specs.Slot.{toldAt}
+use Rattle.remains.specs.declared.Fields.{Fields}
+use Rattle.remains.specs.declared.Slot.{Slot}
+use Rattle.remains.specs.declared.Slot.the-variants.{Free, Held, Released}
+use Rattle.remains.proofs.Slots.{Stands, stands-free, stands-held, stands-released, stands-damaged, stands, zeros-told, not-free}
 use Rattle.salvage.specs.Whole.{serialIn, heldIn, agrees, votes, newestOf, oldestOf, due, freeVerdict, heldVerdict, releasedVerdict, verdictOf, verdictAt}
-use Rattle.salvage.specs.declared.Fields.{Fields}
-use Rattle.salvage.specs.declared.Slot.{Slot}
-use Rattle.salvage.specs.declared.Slot.the-variants.{Free, Held, Released}
 use Rattle.salvage.specs.declared.Verdict.{Verdict}
 use Rattle.salvage.specs.declared.Verdict.the-variants as verdict
 use Rattle.salvage.proofs.Rule.{due-none, due-some, free-fine, held-fine, released-none, released-below}
 use Rattle.salvage.proofs.Polls.{agrees-is, agrees-kept, votes-all, leader-among, leader-votes, leader-most, lowest-among, lowest-le}
-use Rattle.salvage.proofs.Slots.{Stands, stands-free, stands-held, stands-released, stands-damaged, stands, serial-in, held-in, zeros-told, not-free}
+
+-- ---- a slot of a record that belongs there tells its serial
+
+serial-in : (j : List ℕ) (k : ℕ) (s : Slot) → Stands j k s → Belongs j k → serialIn s ≡ serialAt j (32 * k)
+serial-in j k s (stands-free z) b = absurd (not-free j k b z)
+serial-in j k s (stands-held a h q) b = q
+serial-in j k s (stands-released a h q) b = q
+serial-in j k s (stands-damaged z a) b = absurd (a b)
+
+held-in : (j : List ℕ) (k : ℕ) (s : Slot) → Stands j k s → Belongs j k → isHeld (stateAt j (32 * k)) ≡ true → heldIn s ≡ serialAt j (32 * k)
+held-in j k s (stands-free z) b x = absurd (not-free j k b z)
+held-in j k s (stands-held a h q) b x = q
+held-in j k s (stands-released a h q) b x = absurd (not-both (stateAt j (32 * k)) x h)
+held-in j k s (stands-damaged z a) b x = absurd (a b)
 
 -- ---- the serial that is due
 

@@ -13,10 +13,8 @@ use Rattle.text.proofs.Tests.{both-true}
 use Rattle.salvage.proofs.Rule.{preferred-more, preferred-fewer, lower-none, lower-first, lower-new, lower-old}
 use lib.ListN.{length, getD, set}
 use lib.Seq.{getD-set-same, getD-set-other}
-use Rattle.salvage.specs.Whole.{agrees, votes, pollOf, preferred, leader, lower, lowest, counted, countOf}
+use Rattle.salvage.specs.Whole.{agrees, votes, pollOf, preferred, leader, lower, lowest}
 use Rattle.salvage.specs.declared.inner.Poll.{Poll}
-use Rattle.salvage.specs.declared.Slot.{Slot}
-use Rattle.salvage.specs.declared.Counts.{Counts}
 
 -- ---- one turn of each walk
 
@@ -205,13 +203,3 @@ module _ (g : ℕ → ℕ) (n b : ℕ) where
       let q : cond (agrees n b (g m)) (g m) 0 ≡ g m = ap (λ (t : Bool). cond t (g m) 0) a in
       let u = w .1 (omega (arith, s .0)) in
       (u .0, omega (arith, u .1))) k (subst (λ (x : ℕ). k < x) (sym (add-one m)) h) e
-
--- ---- what the slots come to
-
-pub count-none : (slot : ℕ → Slot) → record { held = 0; sum = 0; released = 0; damaged = 0 } ≡ countOf slot 0
-unfolding countOf
-count-none slot = refl
-
-pub count-more : (slot : ℕ → Slot) (m : ℕ) (c : Counts) → c ≡ countOf slot m → counted c (slot m) ≡ countOf slot (m + 1)
-unfolding countOf
-count-more slot m c h = rw add-one (ap (λ (d : Counts). counted d (slot m)) h)

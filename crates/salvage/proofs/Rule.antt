@@ -1,43 +1,17 @@
--- The rules, outcome by outcome. Assumes nothing.
+-- The rules of the whole, outcome by outcome. Assumes nothing.
 use Prim.Native.Nat.{ℕ, _≤_, _<_, _-_, _%_}
-use mathlib.Core.Path.{_≡_, sym}
+use mathlib.Core.Path.{_≡_}
 use mathlib.Core.Bool.{true, false}
 use mathlib.Core.List.{List}
 use native.Mathlib.Omega.{arith}
-use borrow.Author.Tests.{ltb-true, lt-ltb, le-ltb, eq-eqb, ne-eqb}
-use lib.Dec.{ltb, leb}
+use borrow.Author.Tests.{lt-ltb, le-ltb, eq-eqb, ne-eqb}
+use lib.Dec.{leb}
 use lib.ListN.{length}
 use Rattle.reasons.specs.Reasons.{gives, refuses}
-use Rattle.reasons.proofs.Laws.{passed}
-use Rattle.slots.specs.Record.{isHeld, stateAt}
-use Rattle.slots.specs.Journal.{slotsOf, sized}
-use Rattle.text.specs.Bytes.{every}
-use Rattle.salvage.specs.Slot.{isZero, fieldsOf, testsOf, passes, toldOf, toldAt, lookRule}
-use Rattle.salvage.specs.Whole.{agrees, preferred, lower, due, freeVerdict, heldVerdict, releasedVerdict, agreeRule, newestOf, oldestOf, countOf, countRule}
-use Rattle.salvage.specs.declared.Slot.{Slot}
-use Rattle.salvage.specs.declared.Slot.the-variants.{Free, Held, Released, Damaged}
+use Rattle.slots.specs.Journal.{sized}
+use Rattle.salvage.specs.Whole.{agrees, preferred, lower, due, freeVerdict, heldVerdict, releasedVerdict, agreeRule, newestOf, oldestOf}
 use Rattle.salvage.specs.declared.inner.Poll.{Poll}
 use Rattle.salvage.specs.declared.Verdict.the-variants as verdict
-
--- ---- a slot
-
-module _ (n k : ℕ) (r : List ℕ) where
-  pub told-free : every isZero r ≡ true → Free ≡ toldOf n k r
-  unfolding toldOf
-  told-free z = simp z
-
-  module _ (some : every isZero r ≡ false) where
-    pub told-damaged : passes (testsOf n k r) ≡ false → Damaged (fieldsOf r) (testsOf n k r) ≡ toldOf n k r
-    unfolding toldOf
-    told-damaged p = simp (some, p)
-
-    pub told-held : passes (testsOf n k r) ≡ true → isHeld (stateAt r 0) ≡ true → Held (fieldsOf r) ≡ toldOf n k r
-    unfolding toldOf
-    told-held p h = simp (some, p, h)
-
-    pub told-released : passes (testsOf n k r) ≡ true → isHeld (stateAt r 0) ≡ false → Released (fieldsOf r) ≡ toldOf n k r
-    unfolding toldOf
-    told-released p h = simp (some, p, h)
 
 -- ---- serials
 
@@ -116,27 +90,6 @@ module _ (s d h : ℕ) where
 
 -- ---- the calls
 
-module _ (j : List ℕ) (k : ℕ) where
-  pub look-length : sized (length j) ≡ false → refuses 16 ≡ lookRule j k
-  unfolding lookRule
-  look-length e = simp e
-
-  pub look-past : sized (length j) ≡ true → slotsOf j ≤ k → refuses 20 ≡ lookRule j k
-  unfolding lookRule
-  look-past e h = simp (e, le-ltb k (slotsOf j) h)
-
-  pub look-says : sized (length j) ≡ true → k < slotsOf j → gives (toldAt j k) ≡ lookRule j k
-  unfolding lookRule
-  look-says e h = simp (e, lt-ltb k (slotsOf j) h)
-
-  -- a look that isn't refused is at a slot that is there
-  pub look-there : (s : Slot) → gives s ≡ lookRule j k → (sized (length j) ≡ true) × (k < slotsOf j)
-  unfolding lookRule
-  look-there s e =
-      let p = passed (sized (length j)) 16 _ s (sym e) in
-      let q = passed (ltb k (slotsOf j)) 20 _ s (p .1) in
-      (p .0, ltb-true k (slotsOf j) (q .0))
-
 pub agree-length : (j : List ℕ) → sized (length j) ≡ false → refuses 16 ≡ agreeRule j
 unfolding agreeRule
 agree-length j e = simp e
@@ -144,11 +97,3 @@ agree-length j e = simp e
 pub agree-on : (j : List ℕ) → sized (length j) ≡ true → gives (newestOf j, oldestOf j (newestOf j)) ≡ agreeRule j
 unfolding agreeRule
 agree-on j e = simp e
-
-pub count-length : (j : List ℕ) → sized (length j) ≡ false → refuses 16 ≡ countRule j
-unfolding countRule
-count-length j e = simp e
-
-pub count-all : (j : List ℕ) → sized (length j) ≡ true → gives (countOf (toldAt j) (slotsOf j)) ≡ countRule j
-unfolding countRule
-count-all j e = simp e

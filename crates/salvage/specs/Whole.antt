@@ -8,15 +8,12 @@ use lib.Dec.{eqb, leb, ltb}
 use lib.ListN.{length, getD}
 use Rattle.reasons.specs.Reasons.{Outcome, gives, refuses, demand, andThen, numberOf}
 use Rattle.slots.specs.Journal.{slotsOf, sized}
-use Rattle.salvage.specs.Slot.{toldAt, lookRule}
-use Rattle.salvage.specs.declared.Slot.{Slot}
-use Rattle.salvage.specs.declared.Slot.the-variants.{Free, Held, Released, Damaged}
+use Rattle.remains.specs.Slot.{toldAt, lookRule}
+use Rattle.remains.specs.declared.Slot.{Slot}
+use Rattle.remains.specs.declared.Slot.the-variants.{Free, Held, Released, Damaged}
 use Rattle.salvage.specs.declared.inner.Poll.{Poll}
 use Rattle.salvage.specs.declared.Agreed.{Agreed}
 use Rattle.salvage.specs.declared.Agreed.the-variants as agreed
-use Rattle.salvage.specs.declared.Counts.{Counts}
-use Rattle.salvage.specs.declared.Counted.{Counted}
-use Rattle.salvage.specs.declared.Counted.the-variants as counting
 use Rattle.salvage.specs.declared.Verdict.{Verdict}
 use Rattle.salvage.specs.declared.Verdict.the-variants as verdict
 use Rattle.salvage.specs.declared.Judged.{Judged}
@@ -87,26 +84,6 @@ agreeRule j = demand (sized (length j)) 16 (gives (newestOf j, oldestOf j (newes
 abbrev pub saidAgreed : Agreed → Outcome (ℕ × ℕ)
 saidAgreed (agreed.On b h) = gives (b, h)
 saidAgreed (agreed.Refused r) = refuses (numberOf r)
-
--- ---- what the slots come to
-
-unfoldable pub counted : Counts → Slot → Counts
-counted c Free = c
-counted c (Held f) = record { held = c .held + 1; sum = c .sum + f .amount; released = c .released; damaged = c .damaged }
-counted c (Released f) = record { held = c .held; sum = c .sum; released = c .released + 1; damaged = c .damaged }
-counted c (Damaged f t) = record { held = c .held; sum = c .sum; released = c .released; damaged = c .damaged + 1 }
-
--- of the first m slots: how many are held, released and damaged, and the sum of the held amounts
-unfoldable pub countOf : (ℕ → Slot) → ℕ → Counts
-countOf slot zero = record { held = 0; sum = 0; released = 0; damaged = 0 }
-countOf slot (suc m) = counted (countOf slot m) (slot m)
-
-unfoldable pub countRule : List ℕ → Outcome Counts
-countRule j = demand (sized (length j)) 16 (gives (countOf (toldAt j) (slotsOf j)))
-
-abbrev pub saidCounted : Counted → Outcome Counts
-saidCounted (counting.Of c) = gives c
-saidCounted (counting.Refused r) = refuses (numberOf r)
 
 -- ---- one slot as a part of the whole
 

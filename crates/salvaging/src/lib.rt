@@ -2,11 +2,11 @@
 mod record;
 
 use journals::survey;
+use remains::Counted;
+use remains::Counts;
+use remains::Looked;
 use salvage::Agreed;
-use salvage::Counted;
-use salvage::Counts;
 use salvage::Judged;
-use salvage::Looked;
 use salvage::Verdict;
 ghost use Prim.Native.Nat.{_*_, _≤_};
 ghost use lib.ListN.{length};
@@ -16,7 +16,7 @@ ghost use lib.ListN.{length};
 fn slot(out: &mut [u8], journal: &[u8], k: usize)
     requires { ⌜ 32 * k ≤ length (now journal) ⌝ }
 {
-    match salvage::look(journal, k) {
+    match remains::look(journal, k) {
         Looked::Says(slot) => record::told(
             out,
             text::piece(journal, 32 * k, 32),
@@ -112,7 +112,7 @@ fn counts(out: &mut [u8], c: Counts) {
 }
 
 fn counted(out: &mut [u8], journal: &[u8]) {
-    match salvage::count(journal) {
+    match remains::count(journal) {
         Counted::Of(c) => counts(out, c),
         Counted::Refused(why) => say::refusal(out, why),
     }

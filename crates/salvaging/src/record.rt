@@ -1,7 +1,7 @@
 // A slot in a line: its number, its state, the fields of its record, and what is wrong with it.
-use salvage::Fields;
-use salvage::Slot;
-use salvage::Tests;
+use remains::Fields;
+use remains::Slot;
+use remains::Tests;
 
 // ---- the card
 

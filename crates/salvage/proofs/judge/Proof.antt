@@ -3,11 +3,11 @@ use mathlib.Core.Path.{_≡_, sym, ap, _∙_}
 use Rattle.reasons.specs.Reasons.{Outcome, gives, andThen}
 use Rattle.slots.proofs.Form.{is-sized}
 use Rattle.slots.specs.Journal.{slotsOf}
-use Rattle.salvage.specs.Slot.{saidLooked, lookRule}
+use Rattle.remains.specs.Slot.{saidLooked, lookRule}
 use Rattle.salvage.specs.Whole.{due, verdictOf}
-use Rattle.salvage.specs.declared.Slot.{Slot}
-use Rattle.salvage.specs.declared.Looked.{Looked}
-use Rattle.salvage.proofs.Rule.{look-there}
+use Rattle.remains.specs.declared.Slot.{Slot}
+use Rattle.remains.specs.declared.Looked.{Looked}
+use Rattle.remains.proofs.Rule.{look-there}
 use borrow.Author.Needs.{needs}
 use Rattle.salvage.proofs.judge.Statement.{statement}
 use Rattle.salvage.proofs.judge.Tie as tie

@@ -3,7 +3,7 @@ use mathlib.Core.Path.{_∙_, ap}
 use native.Mathlib.Omega.{arith}
 use Rattle.slots.proofs.Form.{is-sized}
 use Rattle.slots.specs.Journal.{slotsOf}
-use Rattle.salvage.specs.Slot.{toldAt}
+use Rattle.remains.specs.Slot.{toldAt}
 use Rattle.salvage.specs.Whole.{serialIn}
 use Rattle.salvage.specs.declared.inner.Poll.{Poll}
 use Rattle.salvage.proofs.Polls.{leader-same}

@@ -4,8 +4,8 @@ use mathlib.Core.Path.{_≡_, _∙_, ap}
 use native.Mathlib.Omega.{arith}
 use Rattle.slots.specs.Journal.{slotsOf}
 use Rattle.salvage.specs.Whole.{lower, agrees, heldIn, lowest}
-use Rattle.salvage.specs.declared.Slot.{Slot}
-use Rattle.salvage.specs.Slot.{toldAt}
+use Rattle.remains.specs.declared.Slot.{Slot}
+use Rattle.remains.specs.Slot.{toldAt}
 use Rattle.salvage.proofs.Polls.{lowest-none, lowest-more}
 use borrow.Author.Needs.{needs}
 use Rattle.salvage.proofs.inner.oldest.Statement.{statement}

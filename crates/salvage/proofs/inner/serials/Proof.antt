@@ -4,9 +4,9 @@ use native.Mathlib.Omega.{arith}
 use borrow.Author.Count.{below-none}
 use lib.ListN.{length, getD, length-set}
 use Rattle.slots.proofs.Form.{is-sized}
-use Rattle.salvage.specs.Slot.{toldAt}
+use Rattle.remains.specs.Slot.{toldAt}
 use Rattle.salvage.specs.Whole.{serialIn}
-use Rattle.salvage.specs.declared.Slot.{Slot}
+use Rattle.remains.specs.declared.Slot.{Slot}
 use Rattle.salvage.proofs.Polls.{serials-more}
 use borrow.Author.Needs.{needs}
 use Rattle.salvage.proofs.inner.serials.Statement.{statement}

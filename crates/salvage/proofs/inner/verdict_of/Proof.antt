@@ -1,6 +1,6 @@
 use mathlib.Core.Path.{_≡_, sym, ap, _∙_}
 use Rattle.salvage.specs.Whole.{verdictOf}
-use Rattle.salvage.specs.declared.Slot.{Slot}
+use Rattle.remains.specs.declared.Slot.{Slot}
 use borrow.Author.Needs.{needs}
 use Rattle.salvage.proofs.inner.verdict_of.Statement.{statement}
 use Rattle.salvage.proofs.inner.verdict_of.Tie as tie

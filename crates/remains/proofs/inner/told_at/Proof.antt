@@ -5,10 +5,10 @@ use lib.ListN.{length, drop, take, length-drop}
 use lib.Seq.{length-take-le}
 use Rattle.slots.specs.Journal.{slotsOf}
 use Rattle.slots.proofs.Form.{is-sized}
-use Rattle.salvage.specs.Slot.{toldOf}
+use Rattle.remains.specs.Slot.{toldOf}
 use borrow.Author.Needs.{needs}
-use Rattle.salvage.proofs.inner.told_at.Statement.{statement}
-use Rattle.salvage.proofs.inner.told_at.Tie as tie
+use Rattle.remains.proofs.inner.told_at.Statement.{statement}
+use Rattle.remains.proofs.inner.told_at.Tie as tie
 
 mul-at : tie.Need-mul-at
 mul-at c = search needs

@@ -5,10 +5,10 @@ use borrow.Author.Tests.{not-true, not-false}
 use lib.ListN.{length}
 use Rattle.reasons.specs.Reasons.{gives}
 use Rattle.slots.specs.Journal.{sized}
-use Rattle.salvage.proofs.Rule.{look-length, look-past, look-says}
+use Rattle.remains.proofs.Rule.{look-length, look-past, look-says}
 use borrow.Author.Needs.{needs}
-use Rattle.salvage.proofs.look.Statement.{statement}
-use Rattle.salvage.proofs.look.Tie as tie
+use Rattle.remains.proofs.look.Statement.{statement}
+use Rattle.remains.proofs.look.Tie as tie
 
 -- the length passed
 size-is : (c : tie.Else1) → sized (length (c .before .before .before .args .j .now)) ≡ true

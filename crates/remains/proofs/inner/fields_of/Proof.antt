@@ -1,9 +1,9 @@
 use mathlib.Core.Path.{refl}
-use Rattle.salvage.specs.Slot.{fieldsOf}
-use Rattle.salvage.proofs.Bytes.{fields-same}
+use Rattle.remains.specs.Slot.{fieldsOf}
+use Rattle.remains.proofs.Bytes.{fields-same}
 use borrow.Author.Needs.{needs}
-use Rattle.salvage.proofs.inner.fields_of.Statement.{statement}
-use Rattle.salvage.proofs.inner.fields_of.Tie as tie
+use Rattle.remains.proofs.inner.fields_of.Statement.{statement}
+use Rattle.remains.proofs.inner.fields_of.Tie as tie
 
 u32-at-requires : tie.Need-u32-at-requires
 u32-at-requires c κs = search needs

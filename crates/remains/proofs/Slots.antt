@@ -1,4 +1,4 @@
--- What a slot's own bytes say against the journal's relations: free, a record that belongs there, or neither. Assumes nothing.
+-- What a slot's own bytes say against the journal's relations: free, a record that belongs there, or neither.
 use Prim.Native.Nat.{ℕ, _≤_, _<_, _+_, _-_, _*_}
 use mathlib.Core.Path.{_≡_, refl, sym, ap, _∙_, subst}
 use mathlib.Core.Bool.{Bool, true, false, _&&_}
@@ -14,16 +14,15 @@ use Rattle.text.proofs.Tests.{both-true}
 use Rattle.slots.specs.Record.{isHeld, isReleased, isRecord, lengthFits, kept, serialAt, amountAt, stateAt, Zeros, Digits}
 use Rattle.slots.specs.Journal.{slotsOf, place}
 use Rattle.slots.proofs.Ranges.{differ}
-use Rattle.slots.proofs.States.{kept-fits, state-released, free-no-record, not-both}
+use Rattle.slots.proofs.States.{kept-fits, state-released, free-no-record}
 use Rattle.journal.specs.Survey.{Belongs}
-use Rattle.salvage.specs.Slot.{slotAt, isZero, fieldsOf, testsOf, passes, toldOf, toldAt}
-use Rattle.salvage.specs.Whole.{serialIn, heldIn}
-use Rattle.salvage.specs.declared.Fields.{Fields}
-use Rattle.salvage.specs.declared.Tests.{Tests}
-use Rattle.salvage.specs.declared.Slot.{Slot}
-use Rattle.salvage.specs.declared.Slot.the-variants.{Free, Held, Released, Damaged}
-use Rattle.salvage.proofs.Bytes.{every-all, zeros-every, every-zeros}
-use Rattle.salvage.proofs.Rule.{told-free, told-held, told-released, told-damaged}
+use Rattle.remains.specs.Slot.{slotAt, isZero, fieldsOf, testsOf, passes, toldOf, toldAt}
+use Rattle.remains.specs.declared.Fields.{Fields}
+use Rattle.remains.specs.declared.Tests.{Tests}
+use Rattle.remains.specs.declared.Slot.{Slot}
+use Rattle.remains.specs.declared.Slot.the-variants.{Free, Held, Released, Damaged}
+use Rattle.remains.proofs.Bytes.{every-all, zeros-every, every-zeros}
+use Rattle.remains.proofs.Rule.{told-free, told-held, told-released, told-damaged}
 
 -- ---- the four cases
 
@@ -210,24 +209,11 @@ stands j k there = go (toldAt j k) (told (slotsOf j) k (slotAt j k))
         stands-damaged (λ y. differ (every isZero (slotAt j k)) z (zeros-free j k there y))
         (λ b. differ (passes (testsOf (slotsOf j) k (slotAt j k))) p (belongs-passes j k there b))
 
--- a slot of a record that belongs there tells its serial
-
+-- a slot of a record that belongs there isn't free
 pub not-free : (j : List ℕ) (k : ℕ) → Belongs j k → Zeros j (32 * k) (32 * k + 32) → ⊥
 not-free j k b z = differ (isRecord 0) free-no-record (sym (ap (λ (x : ℕ). isRecord x) (z (32 * k + 15) (omega arith) (omega arith))) ∙ b .good .state)
 
-pub serial-in : (j : List ℕ) (k : ℕ) (s : Slot) → Stands j k s → Belongs j k → serialIn s ≡ serialAt j (32 * k)
-serial-in j k s (stands-free z) b = absurd (not-free j k b z)
-serial-in j k s (stands-held a h q) b = q
-serial-in j k s (stands-released a h q) b = q
-serial-in j k s (stands-damaged z a) b = absurd (a b)
-
-pub held-in : (j : List ℕ) (k : ℕ) (s : Slot) → Stands j k s → Belongs j k → isHeld (stateAt j (32 * k)) ≡ true → heldIn s ≡ serialAt j (32 * k)
-held-in j k s (stands-free z) b x = absurd (not-free j k b z)
-held-in j k s (stands-held a h q) b x = q
-held-in j k s (stands-released a h q) b x = absurd (not-both (stateAt j (32 * k)) x h)
-held-in j k s (stands-damaged z a) b x = absurd (a b)
-
--- and one that is all zero has none
+-- and one that is all zero is
 pub zeros-told : (j : List ℕ) (k : ℕ) (s : Slot) → Stands j k s → Zeros j (32 * k) (32 * k + 32) → s ≡ Free
 zeros-told j k s (stands-free z) y = refl
 zeros-told j k s (stands-held a h q) y = absurd (not-free j k a y)

@@ -1,5 +1,5 @@
 -- What one slot of a journal says, whatever stands in the others: judged by its own 32 bytes and by its serial belonging there (house; beyond
--- document 01). Assumes nothing.
+-- document 01).
 use Prim.Native.Nat.{ℕ, _+_, _*_}
 use mathlib.Core.Bool.{Bool, cond, _&&_}
 use mathlib.Core.List.{List}
@@ -10,12 +10,12 @@ use Rattle.text.specs.Numbers.{u16At, u32At}
 use Rattle.reasons.specs.Reasons.{Outcome, gives, refuses, demand, numberOf}
 use Rattle.slots.specs.Record.{isHeld, isRecord, lengthFits, kept, serialAt, amountAt, lengthAt, stateAt}
 use Rattle.slots.specs.Journal.{slotsOf, sized, place}
-use Rattle.salvage.specs.declared.Fields.{Fields}
-use Rattle.salvage.specs.declared.Tests.{Tests}
-use Rattle.salvage.specs.declared.Slot.{Slot}
-use Rattle.salvage.specs.declared.Slot.the-variants.{Free, Held, Released, Damaged}
-use Rattle.salvage.specs.declared.Looked.{Looked}
-use Rattle.salvage.specs.declared.Looked.the-variants as looked
+use Rattle.remains.specs.declared.Fields.{Fields}
+use Rattle.remains.specs.declared.Tests.{Tests}
+use Rattle.remains.specs.declared.Slot.{Slot}
+use Rattle.remains.specs.declared.Slot.the-variants.{Free, Held, Released, Damaged}
+use Rattle.remains.specs.declared.Looked.{Looked}
+use Rattle.remains.specs.declared.Looked.the-variants as looked
 
 -- the 32 bytes of slot k
 abbrev pub slotAt : List ℕ → ℕ → List ℕ

@@ -7,11 +7,11 @@ use lib.ListN.{take, drop, getD}
 use Rattle.text.specs.Bytes.{every, allDigits}
 use Rattle.slots.specs.Journal.{place}
 use Rattle.slots.specs.Record.{kept}
-use Rattle.salvage.specs.Slot.{testsOf, isZero}
-use Rattle.salvage.proofs.Bytes.{tests-same, tells-zeros}
+use Rattle.remains.specs.Slot.{testsOf, isZero}
+use Rattle.remains.proofs.Bytes.{tests-same, tells-zeros}
 use borrow.Author.Needs.{needs}
-use Rattle.salvage.proofs.inner.tests_of.Statement.{statement}
-use Rattle.salvage.proofs.inner.tests_of.Tie as tie
+use Rattle.remains.proofs.inner.tests_of.Statement.{statement}
+use Rattle.remains.proofs.inner.tests_of.Tie as tie
 
 u32-at-requires : tie.Need-u32-at-requires
 u32-at-requires c κs = search needs

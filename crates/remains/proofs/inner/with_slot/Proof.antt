@@ -1,9 +1,9 @@
 use mathlib.Core.Path.{sym, ap}
 use native.Mathlib.Omega.{arith}
-use Rattle.salvage.specs.Whole.{counted}
+use Rattle.remains.specs.Count.{counted}
 use borrow.Author.Needs.{needs}
-use Rattle.salvage.proofs.inner.with_slot.Statement.{statement}
-use Rattle.salvage.proofs.inner.with_slot.Tie as tie
+use Rattle.remains.proofs.inner.with_slot.Statement.{statement}
+use Rattle.remains.proofs.inner.with_slot.Tie as tie
 
 enum-told : tie.Need-enum-told
 enum-told c = search needs
@@ -38,7 +38,9 @@ returns c = (sym (ap (counted (c .before .before .args .c)) (c .enum-told .given
 
 returns-2 : tie.Need-returns-2
 unfolding counted
-returns-2 c = (sym (ap (counted (c .before .before .before .before .before .before .args .c)) (c .before .before .before .before .s .given .1)), omega arith, omega arith, omega arith, omega arith)
+returns-2 c =
+    let at-held = c .before .before .before .before in
+    (sym (ap (counted (at-held .before .before .args .c)) (at-held .s .given .1)), omega arith, omega arith, omega arith, omega arith)
 
 returns-3 : tie.Need-returns-3
 unfolding counted

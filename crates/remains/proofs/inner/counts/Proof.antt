@@ -1,13 +1,13 @@
-use Prim.Native.Nat.{ℕ, _≤_, _*_, _-_}
+use Prim.Native.Nat.{_≤_, _*_, _-_}
 use mathlib.Core.Path.{_≡_, _∙_, ap}
 use native.Mathlib.Omega.{arith}
 use Rattle.slots.proofs.Form.{is-sized}
 use Rattle.slots.specs.Journal.{slotsOf}
-use Rattle.salvage.specs.Slot.{toldAt}
-use Rattle.salvage.specs.Whole.{counted, countOf}
-use Rattle.salvage.proofs.Polls.{count-none, count-more}
-use Rattle.salvage.proofs.inner.counts.Statement.{statement}
-use Rattle.salvage.proofs.inner.counts.Tie as tie
+use Rattle.remains.specs.Slot.{toldAt}
+use Rattle.remains.specs.Count.{counted, countOf}
+use Rattle.remains.proofs.Rule.{count-none, count-more}
+use Rattle.remains.proofs.inner.counts.Statement.{statement}
+use Rattle.remains.proofs.inner.counts.Tie as tie
 
 abbrev Inv-loop : tie.InvT-loop
 Inv-loop j n c₀ k₀ c k = (k ≤ n) × (c .held ≤ k) × (c .released ≤ k) × (c .damaged ≤ k) × (c .sum ≤ 4294967295 * c .held) × (c ≡ countOf (toldAt j) k)
@@ -35,7 +35,8 @@ loop-again : tie.Need-loop-again Inv-loop μ-loop
 loop-again c = let l = c .before .before .before .loop in
     let j = c .before .before .before .before .before .args .j .now in
     let e = c .with-slot .ensures in
-    (omega arith, omega arith, omega arith, omega arith, e .1, e .0 ∙ ap (counted (l .c)) (c .before .told-at .ensures) ∙ count-more (toldAt j) (l .k) (l .c) (l .inv .5))
+    let more = e .0 ∙ ap (counted (l .c)) (c .before .told-at .ensures) ∙ count-more (toldAt j) (l .k) (l .c) (l .inv .5) in
+    (omega arith, omega arith, omega arith, omega arith, e .1, more)
 
 returns : tie.Need-returns Inv-loop μ-loop
 returns c = let l = c .before .loop in

@@ -1,5 +1,5 @@
--- Every byte of a part passes a test, told place by place; and records told field by field. Assumes nothing.
-use Prim.Native.Nat.{ℕ, zero, suc, _<_, _+_, _-_}
+-- Every byte of a part passes a test, told place by place; and records told field by field.
+use Prim.Native.Nat.{ℕ, suc, _<_, _+_, _-_}
 use mathlib.Core.Path.{_≡_, refl, sym, ap, _∙_}
 use mathlib.Core.Bool.{Bool, true, false}
 use mathlib.Core.List.{List, [], _∷_}
@@ -11,9 +11,9 @@ use Rattle.text.specs.Bytes.{every}
 use Rattle.text.proofs.Every.{every-at, every-cons}
 use Rattle.slots.specs.Record.{Zeros}
 use Rattle.slots.specs.Journal.{Tells}
-use Rattle.salvage.specs.Slot.{isZero}
-use Rattle.salvage.specs.declared.Fields.{Fields}
-use Rattle.salvage.specs.declared.Tests.{Tests}
+use Rattle.remains.specs.Slot.{isZero}
+use Rattle.remains.specs.declared.Fields.{Fields}
+use Rattle.remains.specs.declared.Tests.{Tests}
 
 -- a test that holds at each place holds of every byte
 pub every-all : (f : ℕ → Bool) (s : List ℕ) → ((i : ℕ) → i < length s → f (getD s i 0) ≡ true) → every f s ≡ true

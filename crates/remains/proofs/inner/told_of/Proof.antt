@@ -2,14 +2,14 @@ use mathlib.Core.Bool.{true, false}
 use mathlib.Core.Path.{_≡_, sym, ap, _∙_}
 use borrow.Author.Tests.{not-true, not-false}
 use Rattle.text.specs.Bytes.{every}
-use Rattle.salvage.specs.Slot.{isZero, passes, testsOf}
-use Rattle.salvage.specs.declared.Slot.the-variants.{Held, Released, Damaged}
-use Rattle.salvage.specs.declared.Tests.{Tests}
-use Rattle.salvage.proofs.Bytes.{tells-zeros}
-use Rattle.salvage.proofs.Rule.{told-free, told-damaged, told-held, told-released}
+use Rattle.remains.specs.Slot.{isZero, passes, testsOf}
+use Rattle.remains.specs.declared.Slot.the-variants.{Held, Released, Damaged}
+use Rattle.remains.specs.declared.Tests.{Tests}
+use Rattle.remains.proofs.Bytes.{tells-zeros}
+use Rattle.remains.proofs.Rule.{told-free, told-damaged, told-held, told-released}
 use borrow.Author.Needs.{needs}
-use Rattle.salvage.proofs.inner.told_of.Statement.{statement}
-use Rattle.salvage.proofs.inner.told_of.Tie as tie
+use Rattle.remains.proofs.inner.told_of.Statement.{statement}
+use Rattle.remains.proofs.inner.told_of.Tie as tie
 
 -- a slot that is not free
 some-byte : (c : tie.Else1) → every isZero (c .before .before .before .args .r .now) ≡ false

@@ -4,10 +4,10 @@ use borrow.Author.Tests.{not-true, not-false}
 use lib.ListN.{length}
 use Rattle.reasons.specs.Reasons.{gives}
 use Rattle.slots.specs.Journal.{sized}
-use Rattle.salvage.proofs.Rule.{count-length, count-all}
+use Rattle.remains.proofs.Rule.{count-length, count-all}
 use borrow.Author.Needs.{needs}
-use Rattle.salvage.proofs.count.Statement.{statement}
-use Rattle.salvage.proofs.count.Tie as tie
+use Rattle.remains.proofs.count.Statement.{statement}
+use Rattle.remains.proofs.count.Tie as tie
 
 -- the length passed
 size-is : (c : tie.Else1) → sized (length (c .before .before .before .args .j .now)) ≡ true

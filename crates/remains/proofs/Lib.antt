@@ -1,0 +1,5 @@
+pub mod Bytes
+pub mod Rule
+pub mod Slots
+pub mod Clocks
+pub mod Laws
