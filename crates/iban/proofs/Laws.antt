@@ -26,7 +26,7 @@ use Rattle.mod97.proofs.Refusals as refusals
 use Rattle.mod97.proofs.Standard.{AllYes, answers, goes-on, making}
 use Rattle.mod97.proofs.Standard as standards
 use Rattle.mod97.proofs.Pairs.{kept, pair-digits-kept, digit-is, pair-digits-is, made-within, pair-is-made, saidMade-one}
-use Rattle.iban.specs.Countries.{kindN, kindFits, table, listedIn, rowIn, listed, runsOf, kindsOf, fits, inRunOfC}
+use Rattle.countries.specs.Countries.{kindN, kindFits, table, listedIn, rowIn, listed, runsOf, kindsOf, fits, inRunOfC}
 use Rattle.iban.specs.Iban.{isAllowed, allAllowed, laidOut, ibanRule, makeRule}
 use Rattle.iban.proofs.Rule.{standard, makeAnswers}
 use Rattle.iban.proofs.Places.{fits-swap, drop-swap, both-c}

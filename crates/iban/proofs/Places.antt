@@ -12,7 +12,7 @@ use lib.Seq.{drop-set-add, getD-drop, getD-append-add}
 use borrow.Author.Tests.{lt-ltb, le-ltb, ltb-true}
 use Rattle.text.proofs.Tests.{both-true}
 use Rattle.text.specs.Bytes.{swap}
-use Rattle.iban.specs.Countries.{Kind, kindN, kindA, kindC, isC, kindFits, Run, kindsOf, fits, inRunOfC}
+use Rattle.countries.specs.Countries.{Kind, kindN, kindA, kindC, isC, kindFits, Run, kindsOf, fits, inRunOfC}
 
 -- each byte of a body fits the kind of its place
 fits-at : (ks : List Kind) (s : List ℕ) (i : ℕ) → fits ks s ≡ true → i < length s → kindFits (getD ks i kindN) (getD s i 0) ≡ true

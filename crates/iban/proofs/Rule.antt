@@ -10,10 +10,10 @@ use lib.Seq.{take-all}
 use Rattle.text.specs.Bytes.{within}
 use Rattle.mod97.specs.Pair.{pairDigits}
 use Rattle.mod97.proofs.Standard.{Answers, Standard}
-use Rattle.iban.specs.Countries.{table, rowIn, listed, runsOf, kindsOf, fits}
-use Rattle.iban.specs.Stored.{stored, fitsStored}
+use Rattle.countries.specs.Countries.{table, rowIn, listed, runsOf, kindsOf, fits}
+use Rattle.countries.specs.Stored.{stored, fitsStored}
 use Rattle.iban.specs.Iban.{isAllowed, allAllowed, laidOut}
-use Rattle.iban.proofs.Fits.{row-fits}
+use Rattle.countries.proofs.Fits.{row-fits}
 
 abbrev pub standard : Standard
 standard = record { low = 5; high = 34; allows = isAllowed; lists = listed; lays = laidOut }
@@ -36,7 +36,8 @@ module _ (s : List ℕ) where
   laid-out-is d = simp d
 
   -- the code's test of the row that it found, on what stands behind the first four bytes
-  pub row-says : (r : List ℕ) → r ≡ stored (rowIn table (getD s 0 0) (getD s 1 0)) → fitsStored r (take (length s - 4) (drop 4 s)) ≡ fits (kindsOf (runsOf s)) (drop 4 s)
+  pub row-says : (r : List ℕ) → r ≡ stored (rowIn table (getD s 0 0) (getD s 1 0))
+      → fitsStored r (take (length s - 4) (drop 4 s)) ≡ fits (kindsOf (runsOf s)) (drop 4 s)
   row-says r e =
       ap (fitsStored r) (take-all (length s - 4) (drop 4 s) (omega (arith, length-drop 4 s)))
       ∙ row-fits (getD s 0 0) (getD s 1 0) r (drop 4 s) e

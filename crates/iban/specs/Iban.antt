@@ -7,7 +7,7 @@ use lib.ListN.{length, drop}
 use Rattle.reasons.specs.Reasons.{Outcome, gives, demand}
 use Rattle.text.specs.Bytes.{within, every}
 use Rattle.mod97.specs.Pair.{pairDigits, checks, pairFor}
-use Rattle.iban.specs.Countries.{kindC, kindFits, listed, runsOf, kindsOf, fits}
+use Rattle.countries.specs.Countries.{kindC, kindFits, listed, runsOf, kindsOf, fits}
 
 -- "each byte a digit or capital": what kind c takes
 abbrev pub isAllowed : ℕ → Bool

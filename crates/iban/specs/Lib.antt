@@ -1,3 +1,1 @@
-pub mod Countries
-pub mod Stored
 pub mod Iban

@@ -15,7 +15,7 @@ use Rattle.pan.specs.Pan.{panLength, frontShown, backShown, masked, maskRule, m
 use Rattle.mod97.specs.Text.{number, inDecimal, written, numberAfter}
 use Rattle.mod97.specs.Pair.{pairDigits, pairOf, checks}
 use Rattle.creditor.specs.Creditor.{isPlain, laidOut as laidOutRF, creditorRule}
-use Rattle.iban.specs.Countries.{kindFits, table, listedIn, rowIn, kindsOf, fits}
+use Rattle.countries.specs.Countries.{kindFits, table, listedIn, rowIn, kindsOf, fits}
 use Rattle.iban.specs.Iban.{laidOut, ibanRule}
 use Rattle.stream.specs.Stream.{bitsFrom, stream, number as numberOfBits, ones}
 use Rattle.bits.specs.Reading.{next, allZero, finish, body, skip, begins, readOne, readEither, readRule}

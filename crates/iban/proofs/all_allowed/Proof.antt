@@ -1,5 +1,5 @@
 use borrow.Author.Needs.{needs}
-use Rattle.iban.specs.Stored.{kindOf}
+use Rattle.countries.specs.Stored.{kindOf}
 use Rattle.iban.proofs.all_allowed.Statement.{statement}
 use Rattle.iban.proofs.all_allowed.Tie as tie
 

@@ -11,10 +11,10 @@ use Rattle.text.specs.Bytes.{within}
 use Rattle.text.proofs.Tests.{under, over, inside}
 use Rattle.reasons.specs.Reasons.{gives}
 use Rattle.mod97.proofs.Standard.{Answers, count-refused, byte-refused, country-refused, layout-refused, goes-on}
-use Rattle.iban.proofs.Fits.{row-fits}
+use Rattle.countries.proofs.Fits.{row-fits}
 use Rattle.iban.specs.Iban.{allAllowed, makeRule}
 use Rattle.iban.proofs.Rule.{makeAnswers}
-use Rattle.iban.specs.Countries.{listed, runsOf, kindsOf, fits}
+use Rattle.countries.specs.Countries.{listed, runsOf, kindsOf, fits}
 use Rattle.iban.proofs.make.Statement.{statement}
 use Rattle.iban.proofs.make.Tie as tie
 

@@ -12,7 +12,7 @@ use Rattle.reasons.specs.Reasons.{refuses}
 use Rattle.mod97.specs.Pair.{pairDigits}
 use Rattle.mod97.proofs.Standard.{AllYes, answers, count-refused, byte-refused, country-refused, layout-refused, pair-wrong, accepts}
 use Rattle.iban.specs.Iban.{allAllowed, laidOut, ibanRule}
-use Rattle.iban.specs.Countries.{listed}
+use Rattle.countries.specs.Countries.{listed}
 use Rattle.iban.proofs.Rule.{standard, row-says, no-pair-digits, laid-out-is}
 use Rattle.iban.proofs.test.Statement.{statement}
 use Rattle.iban.proofs.test.Tie as tie

@@ -1,4 +1,4 @@
--- The countries of document 01, section "IBAN", and the kinds of their bodies. Assumes nothing.
+-- The countries of document 01, section "IBAN", and the kinds of their bodies.
 use Prim.Native.Nat.{ℕ, _+_, _-_}
 use Prim.Native.String.{String}
 use mathlib.Core.Bool.{Bool, true, false, cond, _&&_, _||_}

@@ -1,4 +1,4 @@
--- A body by the code's three runs, and place by place. Assumes nothing.
+-- A body by the code's three runs, and place by place.
 use Prim.Native.Nat.{ℕ, zero, suc, _+_, _≤_}
 use mathlib.Core.Path.{_≡_, refl, sym, ap, _∙_}
 use mathlib.Core.Bool.{Bool, false, _&&_, and-true, and-false, and-assoc}
@@ -11,9 +11,9 @@ use lib.ListN.{length, take, drop, replicate, length-drop, length-append, length
 use lib.Seq.{drop-drop, take-all}
 use borrow.Author.Tests.{eq-eqb, ne-eqb}
 use Rattle.text.specs.Bytes.{every}
-use Rattle.iban.specs.Countries.{Kind, kindN, kindA, kindC, kindFits, Run, table, rowIn, kindsOf, fits}
-use Rattle.iban.specs.Stored.{letterOf, kindOf, stored, fitsStored}
-use Rattle.iban.proofs.Rows.{few-runs}
+use Rattle.countries.specs.Countries.{Kind, kindN, kindA, kindC, kindFits, Run, table, rowIn, kindsOf, fits}
+use Rattle.countries.specs.Stored.{letterOf, kindOf, stored, fitsStored}
+use Rattle.countries.proofs.Rows.{few-runs}
 
 -- a body with a run in front
 fits-run : (k : Kind) (m : ℕ) (ks : List Kind) (s : List ℕ) → m ≤ length s
@@ -41,7 +41,10 @@ module _ (k l m : Kind) (p q d : ℕ) (s : List ℕ) where
   unfolding kinds
   kinds-length = simp (length-append, length-replicate) (omega arith)
 
-  three-in : length s ≡ p + q + d → fits kinds s ≡ (every (kindFits k) (take p s) && (every (kindFits l) (take q (drop p s)) && every (kindFits m) (drop (p + q) s)))
+  abbrev runByRun : Bool
+  runByRun = every (kindFits k) (take p s) && (every (kindFits l) (take q (drop p s)) && every (kindFits m) (drop (p + q) s))
+
+  three-in : length s ≡ p + q + d → fits kinds s ≡ runByRun
   unfolding kinds fits
   three-in e =
       let u = length-drop p s in
@@ -52,13 +55,13 @@ module _ (k l m : Kind) (p q d : ℕ) (s : List ℕ) where
       (fits-run l q (replicate d m ++ []) (drop p s) (omega arith)
       ∙ ap (λ (t : Bool). every (kindFits l) (take q (drop p s)) && t)
       (fits-run m d [] (drop q (drop p s)) (omega arith)
-      ∙ rw (take-all d (drop q (drop p s)) w, drop-of-length-le (drop q (drop p s)) {i = d} w, drop-drop q p s) (and-true (every (kindFits m) (drop (p + q) s)))))
+      ∙ rw (take-all d (drop q (drop p s)) w, drop-of-length-le (drop q (drop p s)) {i = d} w, drop-drop q p s)
+      (and-true (every (kindFits m) (drop (p + q) s)))))
 
-  three : (eqb (length s) (p + q + d) && (every (kindFits k) (take p s) && (every (kindFits l) (take q (drop p s)) && every (kindFits m) (drop (p + q) s)))) ≡ fits kinds s
+  three : (eqb (length s) (p + q + d) && runByRun) ≡ fits kinds s
   three = go (ℕ-discrete (length s) (p + q + d))
     where
-      go : Dec (length s ≡ p + q + d)
-          → (eqb (length s) (p + q + d) && (every (kindFits k) (take p s) && (every (kindFits l) (take q (drop p s)) && every (kindFits m) (drop (p + q) s)))) ≡ fits kinds s
+      go : Dec (length s ≡ p + q + d) → (eqb (length s) (p + q + d) && runByRun) ≡ fits kinds s
       go (yes e) = rw (eq-eqb (length s) (p + q + d) e) (sym (three-in e))
       go (no e) = rw (ne-eqb (length s) (p + q + d) e) (sym (fits-wrong kinds s (λ w. e (w ∙ kinds-length))))
 

@@ -11,10 +11,10 @@ use borrow.Author.Needs.{needs}
 use mir.Val.{Fits}
 use mir.Syntax.{w8}
 use Rattle.text.specs.Bytes.{every}
-use Rattle.iban.specs.Countries.{kindFits}
-use Rattle.iban.specs.Stored.{kindOf, fitsStored}
-use Rattle.iban.proofs.fits_row.Statement.{statement}
-use Rattle.iban.proofs.fits_row.Tie as tie
+use Rattle.countries.specs.Countries.{kindFits}
+use Rattle.countries.specs.Stored.{kindOf, fitsStored}
+use Rattle.countries.proofs.fits_row.Statement.{statement}
+use Rattle.countries.proofs.fits_row.Tie as tie
 
 abbrev row-at : tie.Else1 → List ℕ
 row-at c = c .before .before .args .t1
@@ -27,14 +27,13 @@ size-holds : (c : tie.Else1) → eqb (length (body-at c)) (getD (row-at c) 2 0 +
 size-holds c = eq-eqb (length (body-at c)) (getD (row-at c) 2 0 + getD (row-at c) 4 0 + getD (row-at c) 6 0) (c .if1 .left)
 
 first-holds : (c : tie.Else2)
-    → every (kindFits (kindOf (getD (row-at (c .before .before .before)) 3 0))) (take (getD (row-at (c .before .before .before)) 2 0) (body-at (c .before .before .before))) ≡ true
+    → let o = c .before .before .before in every (kindFits (kindOf (getD (row-at o) 3 0))) (take (getD (row-at o) 2 0) (body-at o)) ≡ true
 first-holds c = sym (c .before .all-fit .ensures) ∙ not-false _ (c .if2 .left)
 
 -- what the test of the second run says
 second-says : (c : tie.After-all-fit2)
-    → c .all-fit2 .result
-    ≡ every (kindFits (kindOf (getD (row-at (c .before .before .before .before .before)) 5 0)))
-    (take (getD (row-at (c .before .before .before .before .before)) 4 0) (drop (getD (row-at (c .before .before .before .before .before)) 2 0) (body-at (c .before .before .before .before .before))))
+    → let o = c .before .before .before .before .before in
+    c .all-fit2 .result ≡ every (kindFits (kindOf (getD (row-at o) 5 0))) (take (getD (row-at o) 4 0) (drop (getD (row-at o) 2 0) (body-at o)))
 second-says c =
     let o = c .before .before .before .before .before in
     let p = getD (row-at o) 2 0 in

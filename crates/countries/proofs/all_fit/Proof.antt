@@ -1,4 +1,4 @@
--- `all_fit`: what is left of the text fits the kind exactly where the whole does. Assumes nothing.
+-- `all_fit`: what is left of the text fits the kind exactly where the whole does.
 use Prim.Native.Nat.{_≤_, _-_}
 use mathlib.Core.Path.{_≡_, refl, sym, _∙_}
 use native.Mathlib.Omega.{arith}
@@ -7,10 +7,10 @@ use borrow.Author.Needs.{needs}
 use borrow.Author.Tests.{not-true, not-false}
 use Rattle.text.specs.Bytes.{every}
 use Rattle.text.proofs.Every.{end, turn-yes, turn-no}
-use Rattle.iban.specs.Stored.{kindOf}
-use Rattle.iban.specs.Countries.{kindFits}
-use Rattle.iban.proofs.all_fit.Statement.{statement}
-use Rattle.iban.proofs.all_fit.Tie as tie
+use Rattle.countries.specs.Stored.{kindOf}
+use Rattle.countries.specs.Countries.{kindFits}
+use Rattle.countries.proofs.all_fit.Statement.{statement}
+use Rattle.countries.proofs.all_fit.Tie as tie
 
 abbrev Inv-loop : tie.InvT-loop
 Inv-loop k s i₀ i = (i ≤ length s) × (every (kindFits (kindOf k)) (drop i s) ≡ every (kindFits (kindOf k)) s)
@@ -31,7 +31,8 @@ returns : tie.Need-returns Inv-loop μ-loop
 returns c =
     let at-loop = c .before .before .before .before in
     let g = at-loop .before .before .args in
-    turn-no (kindFits (kindOf (g .k))) (g .s .now) (at-loop .loop .i) _ (omega arith) (at-loop .loop .inv .1) (sym (c .before .kind-fits .ensures) ∙ not-true _ (c .if1 .taken))
+    let no = sym (c .before .kind-fits .ensures) ∙ not-true _ (c .if1 .taken) in
+    turn-no (kindFits (kindOf (g .k))) (g .s .now) (at-loop .loop .i) _ (omega arith) (at-loop .loop .inv .1) no
 
 add-i : tie.Need-add-i Inv-loop μ-loop
 add-i c = omega arith
@@ -43,7 +44,8 @@ loop-again : tie.Need-loop-again Inv-loop μ-loop
 loop-again c =
     let at-loop = c .before .before .before .before in
     let g = at-loop .before .before .args in
-    (omega arith, turn-yes (kindFits (kindOf (g .k))) (g .s .now) (at-loop .loop .i) _ (omega arith) (at-loop .loop .inv .1) (sym (c .before .kind-fits .ensures) ∙ not-false _ (c .if1 .left)))
+    let yes = sym (c .before .kind-fits .ensures) ∙ not-false _ (c .if1 .left) in
+    (omega arith, turn-yes (kindFits (kindOf (g .k))) (g .s .now) (at-loop .loop .i) _ (omega arith) (at-loop .loop .inv .1) yes)
 
 returns-2 : tie.Need-returns-2 Inv-loop μ-loop
 returns-2 c =

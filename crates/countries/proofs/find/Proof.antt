@@ -1,4 +1,4 @@
--- `find`: the search in what is left of the table finds what the search in the whole finds. Assumes nothing.
+-- `find`: the search in what is left of the table finds what the search in the whole finds.
 use Prim.Native.Nat.{ℕ, _≤_, _-_}
 use mathlib.Core.Logic.{inl, inr, ⊎-elim}
 use mathlib.Core.List.{List, []}
@@ -6,11 +6,11 @@ use mathlib.Core.Path.{_≡_, refl, sym, ap, _∙_}
 use native.Mathlib.Omega.{arith}
 use lib.ListN.{drop, getD}
 use borrow.Author.Needs.{needs}
-use Rattle.iban.specs.Countries.{table, noRow, listedIn, rowIn}
-use Rattle.iban.proofs.Rows.{row-at, hit, other, none, in-table, past-table}
-use Rattle.iban.specs.Stored.{stored}
-use Rattle.iban.proofs.find.Statement.{statement}
-use Rattle.iban.proofs.find.Tie as tie
+use Rattle.countries.specs.Countries.{table, noRow, listedIn, rowIn}
+use Rattle.countries.proofs.Rows.{row-at, hit, other, none, in-table, past-table}
+use Rattle.countries.specs.Stored.{stored}
+use Rattle.countries.proofs.find.Statement.{statement}
+use Rattle.countries.proofs.find.Tie as tie
 
 -- a byte of the code's row is that of the paper's
 byte : (j : ℕ) {r q : List ℕ} {x : ℕ} → r ≡ q → getD r j 0 ≡ x → getD q j 0 ≡ x
@@ -24,13 +24,13 @@ abbrev μ-loop : tie.MeasureT-loop
 
 -- the row that is looked at
 row-is : (c : tie.After-row Inv-loop μ-loop)
-    → getD (c .before .before .before .countries .result) (c .before .before .loop .i) [] ≡ stored (getD table (c .before .before .loop .i) noRow)
+    → getD (c .before .before .before .table .result) (c .before .before .loop .i) [] ≡ stored (getD table (c .before .before .loop .i) noRow)
 row-is c =
     let i = c .before .before .loop .i in
-    ap (λ (rows : List (List ℕ)). getD rows i []) (c .before .before .before .countries .ensures) ∙ row-at [] i (omega arith)
+    ap (λ (rows : List (List ℕ)). getD rows i []) (c .before .before .before .table .ensures) ∙ row-at [] i (omega arith)
 
-countries-requires : tie.Need-countries-requires Inv-loop μ-loop
-countries-requires c κs = search needs
+table-requires : tie.Need-table-requires Inv-loop μ-loop
+table-requires c κs = search needs
 
 loop-holds : tie.Need-loop-holds Inv-loop μ-loop
 loop-holds c = (omega arith, refl, refl)
@@ -85,7 +85,7 @@ find-spec =
     (tie.spec
     Inv-loop
     μ-loop
-    countries-requires
+    table-requires
     loop-holds
     mul-row
     array-copy-out-row

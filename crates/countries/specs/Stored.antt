@@ -1,4 +1,4 @@
--- How the code's table keeps a row: the two letters, then for each of three runs its size and its kind's letter. Assumes nothing.
+-- How the code's table keeps a row: the two letters, then for each of three runs its size and its kind's letter.
 use Prim.Native.Nat.{ℕ, _+_}
 use Prim.Native.Char.{code}
 use mathlib.Core.Bool.{Bool, cond, _&&_}
@@ -6,7 +6,7 @@ use mathlib.Core.List.{List, [], _∷_, _++_}
 use lib.Dec.{eqb}
 use lib.ListN.{length, getD, take, drop}
 use Rattle.text.specs.Bytes.{every}
-use Rattle.iban.specs.Countries.{Kind, kindN, kindA, kindC, kindFits, Run, Row}
+use Rattle.countries.specs.Countries.{Kind, kindN, kindA, kindC, kindFits, Run, Row}
 
 abbrev pub letterOf : Kind → ℕ
 letterOf kindN = code "n"

@@ -1,4 +1,4 @@
--- The table: its search, and the rule of its rows. Assumes nothing.
+-- The table: its search, and the rule of its rows.
 use Prim.Native.Nat.{ℕ, zero, suc, _+_, _<_, _≤_}
 use mathlib.Core.Path.{_≡_, refl}
 use mathlib.Core.Bool.{Bool, true, false, cond, and-false}
@@ -13,8 +13,8 @@ use lib.ListN.{length, getD, drop, drop-of-length-le, List·getD-eq-default}
 use lib.Seq.{drop-cons}
 use borrow.Author.Tests.{eq-eqb, ne-eqb}
 use Rattle.text.proofs.Table.{allEntries, entry}
-use Rattle.iban.specs.Countries.{Row, table, noRow, isOf, listedIn, rowIn}
-use Rattle.iban.specs.Stored.{stored}
+use Rattle.countries.specs.Countries.{Row, table, noRow, isOf, listedIn, rowIn}
+use Rattle.countries.specs.Stored.{stored}
 
 -- the code's table has the paper's rows, each in its place
 mapped : {A B : Type 0} (f : A → B) (xs : List A) (d : A) (e : B) (k : ℕ) → k < length xs → getD (map f xs) k e ≡ f (getD xs k d)

@@ -1,9 +1,9 @@
 use borrow.Author.Needs.{needs}
 use borrow.Author.Tests.{eq-eqb, ne-eqb}
-use Rattle.iban.specs.Stored.{kindOf}
-use Rattle.iban.specs.Countries.{kindFits}
-use Rattle.iban.proofs.kind_fits.Statement.{statement}
-use Rattle.iban.proofs.kind_fits.Tie as tie
+use Rattle.countries.specs.Stored.{kindOf}
+use Rattle.countries.specs.Countries.{kindFits}
+use Rattle.countries.proofs.kind_fits.Statement.{statement}
+use Rattle.countries.proofs.kind_fits.Tie as tie
 
 is-digit-requires : tie.Need-is-digit-requires
 is-digit-requires c κs = search needs
@@ -36,8 +36,9 @@ is-capital-requires-2 c κs = search needs
 returns-4 : tie.Need-returns-4
 unfolding kindFits kindOf
 returns-4 c =
-    let k = c .before .before .before .before .before .args .k in
-    rw (ne-eqb k _ (c .before .before .before .before .if1 .left), ne-eqb k _ (c .before .before .before .if2 .left), ← c .before .before .is-digit2 .ensures, c .before .if3 .left)
+    let at-second = c .before .before .before in
+    let k = at-second .before .before .args .k in
+    rw (ne-eqb k _ (at-second .before .if1 .left), ne-eqb k _ (at-second .if2 .left), ← c .before .before .is-digit2 .ensures, c .before .if3 .left)
     (c .is-capital2 .ensures)
 
 pub kind-fits-spec : {M : Type 1} → statement M

@@ -1,0 +1,2 @@
+pub mod Countries
+pub mod Stored
