@@ -1,4 +1,4 @@
--- What a reading says, in terms of what it gives. Assumes nothing.
+-- What a reading says, in terms of what it gives.
 use Prim.Native.Nat.{ℕ, _-_, _≤_}
 use mathlib.Core.Path.{_≡_, refl, sym, ap}
 use mathlib.Core.Bool.{Bool}
@@ -7,7 +7,8 @@ use native.Mathlib.Omega.{arith}
 use lib.ListN.{length}
 use Rattle.reasons.specs.Reasons.{Outcome, gives, refuses}
 use Rattle.reasons.proofs.Laws.{gives-refuses}
-use Rattle.bits.specs.Reading.{Format, Track, readRule, counted}
+use Rattle.chars.specs.Reading.{Format}
+use Rattle.bits.specs.Reading.{Track, readRule, counted}
 use Rattle.bits.proofs.Laws.{chars-fit}
 
 -- the track behind a direction and a count

@@ -1,4 +1,4 @@
--- One bit of one byte changed flips that bit of the stream and no other; bytes that hold a reversal. Assumes nothing.
+-- One bit of one byte changed flips that bit of the stream and no other; bytes that hold a reversal.
 use mathlib.Core.Path.{_≡_, refl, sym, ap, ap₂, _∙_, subst}
 use mathlib.Core.Bool.{Bool, false, not}
 use mathlib.Core.List.{List, _∷_, reverse}
@@ -13,7 +13,8 @@ use lib.Dec.{eqb, eqb→eq}
 use borrow.Author.Tests.{eq-eqb, ne-eqb}
 use Rattle.text.proofs.Below.{allBelow, below}
 use Rattle.stream.specs.Stream.{bitAt, isOne, bitN, bitsFrom, stream}
-use Rattle.bits.specs.Flip.{flipAt, flipBit, Reverses}
+use Rattle.chars.specs.Flip.{flipAt}
+use Rattle.bits.specs.Flip.{flipBit, Reverses}
 use Rattle.stream.proofs.Streams.{length-bitsFrom, getD-bitsFrom, getD-reverse}
 
 -- the bits of 2 ^ k, at the places of a byte
@@ -53,7 +54,8 @@ module _ (s : List ℕ) (i : ℕ) (h : i / 8 < length s) where
   at-flip =
       let b = getD s (i / 8) 0 in
       ap (λ (x : ℕ). x / 2 ^ (i % 8) % 2 + bitAt s i) (getD-set-same s (i / 8) (bitXor b (2 ^ (i % 8))) 0 h)
-      ∙ ap (λ (x : ℕ). x + bitAt s i) (xor-bit b (i % 8) (i % 8) (omega arith) (omega arith) ∙ ap (λ (t : Bool). differ (bitAt s i) (bitN t)) (eq-eqb (i % 8) (i % 8) refl))
+      ∙ ap (λ (x : ℕ). x + bitAt s i) (xor-bit b (i % 8) (i % 8) (omega arith) (omega arith)
+      ∙ ap (λ (t : Bool). differ (bitAt s i) (bitN t)) (eq-eqb (i % 8) (i % 8) refl))
       ∙ differ-one (bitAt s i) (omega arith)
 
   off-flip : (j : ℕ) → (j ≡ i → ⊥) → bitAt (flipBit s i) j ≡ bitAt s j
@@ -88,7 +90,9 @@ module _ (s : List ℕ) (i n : ℕ) (h : i / 8 < length s) where
   from k zero j e l = absurd (not-suc-le-zero l)
   from k (suc m) zero e l =
       let q : k ≡ i = omega arith in
-      ap₂ (λ (b : Bool) (r : List Bool). b ∷ r) (isOne-flip (bitAt (flipBit s i) k) (bitAt s k) (subst (λ (p : ℕ). bitAt (flipBit s i) p + bitAt s p ≡ 1) (sym q) (at-flip s i h))) (after (suc k) m (omega arith))
+      ap₂ (λ (b : Bool) (r : List Bool). b ∷ r)
+      (isOne-flip (bitAt (flipBit s i) k) (bitAt s k) (subst (λ (p : ℕ). bitAt (flipBit s i) p + bitAt s p ≡ 1) (sym q) (at-flip s i h)))
+      (after (suc k) m (omega arith))
   from k (suc m) (suc j) e l =
       ap₂ (λ (b : ℕ) (r : List Bool). isOne b ∷ r) (off-flip s i h k (λ q. omega arith)) (from (suc k) m j (omega arith) (omega arith))
 

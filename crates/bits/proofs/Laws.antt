@@ -1,4 +1,4 @@
--- The laws on readings, for every proper format. Assumes nothing.
+-- The laws on readings, for every proper format.
 use mathlib.Core.Path.{_≡_, sym, ap, _∙_}
 use mathlib.Core.Bool.{Bool, true, false, _&&_, false≢true}
 use mathlib.Core.List.{List, reverse, reverse-reverse}
@@ -11,16 +11,19 @@ use Rattle.text.proofs.Tests.{both-true}
 use Rattle.reasons.specs.Reasons.{numberOf, Outcome, gives, refuses}
 use Rattle.reasons.proofs.Laws.{gives-refuses, refuses-one, passed}
 use Rattle.stream.specs.Stream.{stream}
-use Rattle.bits.specs.Reading.{Format, Track, forwardOf, reversedOf, readOne, choose, readEither, readRule, said, Reads}
-use Rattle.bits.specs.Shape.{formatOf, Sound, plain}
-use Rattle.bits.specs.Flip.{flipAt, flipBit, Reverses, Proper}
-use Rattle.bits.specs.declared.Shape.{Shape}
+use Rattle.stream.proofs.Streams.{length-stream}
+use Rattle.chars.specs.Reading.{Format, readOne}
+use Rattle.chars.specs.Shape.{formatOf, Sound}
+use Rattle.chars.specs.Flip.{Proper}
+use Rattle.chars.specs.declared.Shape.{Shape}
+use Rattle.chars.proofs.Laws.{flip-found}
+use Rattle.bits.specs.Reading.{Track, forwardOf, reversedOf, choose, readEither, readRule, said, Reads}
+use Rattle.bits.specs.Ways.{plain}
+use Rattle.bits.specs.Flip.{flipBit, Reverses}
 use Rattle.bits.specs.declared.Read.{Read}
 use Rattle.bits.specs.declared.Read.the-variants.{Forward, Reversed, Refused}
-use Rattle.stream.proofs.Streams.{length-stream}
 use Rattle.bits.proofs.Rules.{rule-reads}
 use Rattle.bits.proofs.Lengths.{either-length}
-use Rattle.bits.proofs.Flips.{stream-flip}
 use Rattle.bits.proofs.FlipBytes.{flipped-stream, reversed-stream}
 
 -- a direction and a count, given
@@ -97,17 +100,13 @@ unfolding readEither
 reads-forward f s a e = went-forward (readOne f s) (readOne f (reverse s)) a e
 
 module _ (f : Format) (ok : Proper f) where
-  -- "flip any one bit of a stream that reads forward, clocking zeros included, and it no longer reads forward"
-  pub flip-found : (s : List Bool) (i : ℕ) → i < length s → (a b : List ℕ) → readOne f s ≡ gives a → readOne f (flipAt i s) ≡ gives b → ⊥
-  flip-found = stream-flip f ok
-
-  -- and of the lent bytes: one bit of one byte changed
+  -- "flip any one bit of a stream that reads forward, clocking zeros included, and it no longer reads forward": one bit of one lent byte changed
   pub flip-found-in-bytes : (s : List ℕ) (count n i : ℕ) → i < count → (a b : List ℕ)
       → readRule f s count n ≡ gives (forwardOf a) → readRule f (flipBit s i) count n ≡ gives (forwardOf b) → ⊥
   flip-found-in-bytes s count n i h a b p q =
       let t = taken f s count n (forwardOf a) p in
       let u = taken f (flipBit s i) count n (forwardOf b) q in
-      flip-found (stream false s count) i (rw length-stream h) a b (reads-forward f _ a (t .reads))
+      flip-found f ok (stream false s count) i (rw length-stream h) a b (reads-forward f _ a (t .reads))
       (ap (readOne f) (sym (flipped-stream s i count (omega (arith, t .there)) h)) ∙ reads-forward f _ b (u .reads))
 
 -- "If a stream reads forward and its reversal doesn't, then reading the reversal either way round gives the same characters"

@@ -1,10 +1,5 @@
-pub mod Walks
-pub mod Chars
-pub mod Bodies
-pub mod Pairs
 pub mod Starts
 pub mod Rules
-pub mod Flips
 pub mod FlipBytes
 pub mod Lengths
 pub mod Laws

@@ -1,4 +1,4 @@
--- From what each way read to what the call says and leaves in the output. Assumes nothing.
+-- From what each way read to what the call says and leaves in the output.
 use mathlib.Core.Path.{_≡_, sym, ap, _∙_}
 use mathlib.Core.Bool.{Bool, true, false, cond}
 use mathlib.Core.List.{List}
@@ -12,10 +12,11 @@ use Rattle.reasons.specs.Reasons.{numberOf, Outcome, gives, refuses}
 use Rattle.reasons.specs.declared.Reason.{Reason}
 use Rattle.reasons.proofs.Laws.{gives-refuses}
 use Rattle.stream.specs.Stream.{stream}
-use Rattle.bits.specs.Reading.{Format, Track, readOne, choose, readEither, readRule, bytesAfter, readBytes, said, counted}
-use Rattle.bits.specs.Shape.{WayRead}
-use Rattle.bits.specs.declared.Found.{Found}
-use Rattle.bits.specs.declared.Found.the-variants.{Chars, Refused as Unfound}
+use Rattle.chars.specs.Reading.{Format, readOne}
+use Rattle.chars.specs.declared.Found.{Found}
+use Rattle.chars.specs.declared.Found.the-variants.{Chars, Refused as Unfound}
+use Rattle.bits.specs.Reading.{Track, choose, readEither, readRule, bytesAfter, readBytes, said, counted}
+use Rattle.bits.specs.Ways.{WayRead}
 use Rattle.bits.specs.declared.Read.{Read}
 use Rattle.bits.specs.declared.Read.the-variants.{Forward, Reversed, Refused}
 

@@ -1,4 +1,4 @@
--- The start sentinel: what the functions find there is what the definition says. Assumes nothing.
+-- The start sentinel: what the functions find there is what the definition says.
 use mathlib.Core.Path.{_≡_, refl, sym, ap, _∙_}
 use mathlib.Core.Bool.{Bool, true, false}
 use mathlib.Core.List.{List, [], _∷_}
@@ -10,9 +10,9 @@ use lib.ListN.{length, getD, take, drop, length-drop}
 use lib.Seq.{drop-drop, drop-cons}
 use Rattle.reasons.specs.Reasons.{refuses, demand}
 use Rattle.stream.specs.Stream.{number, stream, bitsOf}
-use Rattle.bits.specs.Reading.{begins, skip, body, readOne}
-use Rattle.bits.specs.Shape.{lettersOf, formatOf, Sound}
-use Rattle.bits.specs.declared.Shape.{Shape}
+use Rattle.chars.specs.Reading.{begins, skip, body, readOne}
+use Rattle.chars.specs.Shape.{lettersOf, formatOf, Sound}
+use Rattle.chars.specs.declared.Shape.{Shape}
 use Rattle.stream.proofs.Streams.{length-stream}
 use Rattle.stream.proofs.Numbers.{length-bitsOf, number-bitsOf}
 
@@ -55,7 +55,8 @@ module _ (h : Shape) (ok : Sound h) (v : Bool) (s : List ℕ) (c p : ℕ) (skipp
   left q = rw (length-drop, length-stream)
 
   by-test : (b : Bool) → begins (true ∷ bitsOf (h .size) (h .start)) (drop p (stream v s c)) ≡ b
-      → demand b 8 (body (lettersOf (h .size) (h .last) (h .base)) (h .limit - 1) (h .first) [] (drop (p + 1 + h .size) (stream v s c))) ≡ readOne (formatOf h) (stream v s c)
+      → demand b 8 (body (lettersOf (h .size) (h .last) (h .base)) (h .limit - 1) (h .first) [] (drop (p + 1 + h .size) (stream v s c)))
+      ≡ readOne (formatOf h) (stream v s c)
   unfolding readOne
   by-test b e =
       let q : p + suc (h .size) ≡ p + 1 + h .size = omega arith in
@@ -91,7 +92,8 @@ module _ (h : Shape) (ok : Sound h) (v : Bool) (s : List ℕ) (c p : ℕ) (skipp
         (λ q. o (sym after-first ∙ q ∙ start-is)))
 
     pub start-found : x ≡ h .start
-        → body (lettersOf (h .size) (h .last) (h .base)) (h .limit - 1) (h .first) [] (drop (p + 1 + h .size) (stream v s c)) ≡ readOne (formatOf h) (stream v s c)
+        → body (lettersOf (h .size) (h .last) (h .base)) (h .limit - 1) (h .first) [] (drop (p + 1 + h .size) (stream v s c))
+        ≡ readOne (formatOf h) (stream v s c)
     start-found o =
         by-test true (rest ∙ begins-eq (bitsOf (h .size) (h .start)) (drop (p + 1) (stream v s c)) long
         (after-first ∙ o ∙ sym (start-is)))

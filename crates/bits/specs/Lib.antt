@@ -1,3 +1,3 @@
 pub mod Reading
-pub mod Shape
+pub mod Ways
 pub mod Flip

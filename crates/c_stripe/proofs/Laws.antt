@@ -3,7 +3,7 @@
 use Prim.Native.Nat.{ℕ}
 use mathlib.Core.Path.{_≡_, sym, _∙_}
 use mathlib.Core.List.{List}
-use Rattle.bits.specs.Reading.{Format}
+use Rattle.chars.specs.Reading.{Format}
 use Rattle.hands.proofs.Laws.{hands-one}
 use Rattle.c_stripe.specs.Calls.{TrackReads, LayoutReads, Layout1Reads}
 

@@ -5,7 +5,8 @@ use mathlib.Core.Bool.{true, false}
 use mathlib.Core.List.{List}
 use native.Mathlib.Omega.{arith}
 use Rattle.reasons.specs.Reasons.{Outcome, gives, refuses}
-use Rattle.bits.specs.Reading.{Format, Track, readRule, said, counted}
+use Rattle.chars.specs.Reading.{Format}
+use Rattle.bits.specs.Reading.{Track, readRule, said, counted}
 use Rattle.bits.specs.declared.Read.{Read}
 use Rattle.bits.specs.declared.Read.the-variants.{Forward, Reversed, Refused}
 use Rattle.bits.proofs.Counts as counts

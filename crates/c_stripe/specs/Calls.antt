@@ -3,7 +3,8 @@ use Prim.Native.Nat.{ℕ}
 use mathlib.Core.Path.{_≡_}
 use mathlib.Core.List.{List}
 use lib.ListN.{length}
-use Rattle.bits.specs.Reading.{Format, readRule, readBytes}
+use Rattle.chars.specs.Reading.{Format}
+use Rattle.bits.specs.Reading.{readRule, readBytes}
 use Rattle.layout.specs.Layout.{layoutRule}
 use Rattle.layout1.specs.Layout1.{layout1Rule}
 use Rattle.c_stripe.specs.Values.{countsOf, startsOf, starts1Of}

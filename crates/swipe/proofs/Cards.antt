@@ -17,7 +17,8 @@ use Rattle.reasons.proofs.Laws.{passed, went-on, gives-refuses}
 use Rattle.luhn.specs.Luhn.{passes, luhnRule}
 use Rattle.pan.specs.Pan.{panLength}
 use Rattle.ranges.specs.Ranges.{labelRule}
-use Rattle.bits.specs.Reading.{Format, Track as Read, readRule, readBytes, counted}
+use Rattle.chars.specs.Reading.{Format}
+use Rattle.bits.specs.Reading.{Track as Read, readRule, readBytes, counted}
 use Rattle.bits.proofs.Laws.{chars-fit}
 use Rattle.bits.proofs.Counts as counts
 use Rattle.layout.specs.Layout.{Cut, layoutRule}

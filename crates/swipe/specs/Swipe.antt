@@ -11,7 +11,8 @@ use Rattle.reasons.specs.Reasons.{Outcome, gives, refuses, demand, andThen, aft
 use Rattle.luhn.specs.Luhn.{passes}
 use Rattle.pan.specs.Pan.{panLength}
 use Rattle.ranges.specs.Ranges.{tableOk, labelRule}
-use Rattle.bits.specs.Reading.{Format, readRule}
+use Rattle.chars.specs.Reading.{Format}
+use Rattle.bits.specs.Reading.{readRule}
 use Rattle.track1.specs.Track1.{track1}
 use Rattle.track2.specs.Track2.{track2}
 use Rattle.layout.specs.Layout.{Cut, layoutRule}

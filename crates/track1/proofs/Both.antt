@@ -5,7 +5,8 @@ use mathlib.Core.List.{List, [], _∷_, reverse}
 use Rattle.text.specs.Bytes.{bytesOf}
 use Rattle.reasons.specs.Reasons.{gives}
 use Rattle.stream.specs.Stream.{number, ones}
-use Rattle.bits.specs.Reading.{next, allZero, finish, body, skip, begins, readOne, forwardOf, choose, readEither}
+use Rattle.chars.specs.Reading.{next, allZero, finish, body, skip, begins, readOne}
+use Rattle.bits.specs.Reading.{forwardOf, choose, readEither}
 use Rattle.track1.specs.Track1.{track1}
 
 -- a stream that reads both ways round: `%\ W?` and its LRC

@@ -3,7 +3,8 @@ use mathlib.Core.Bool.{true, false}
 use mathlib.Core.List.{List, [], _∷_}
 use Prim.Native.Nat.{ℕ}
 use Rattle.reasons.specs.Reasons.{Outcome}
-use Rattle.bits.specs.Reading.{Format, Track, readRule, readBytes}
+use Rattle.chars.specs.Reading.{Format}
+use Rattle.bits.specs.Reading.{Track, readRule, readBytes}
 
 -- "six data bits, lowest first, for byte 32 + number", start "bits 1010001", end `?`, "11 falls when the 78th character isn't the end"
 abbrev pub track1 : Format

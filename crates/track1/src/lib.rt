@@ -6,7 +6,7 @@ ghost use Rattle.track1.specs.Track1.{track1};
 pub fn read(stream: &[u8], bits: u64, out: &mut [u8]) -> bits::Read
     ensures { λ r. ⌜ Reads track1 (now (stream .entry)) bits (now (out .entry)) r (now (out .exit)) ⌝ }
 {
-    let h = bits::Shape {
+    let h = chars::Shape {
         size: 6,
         start: 34,
         first: 5,

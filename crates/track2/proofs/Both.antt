@@ -13,12 +13,14 @@ use borrow.Author.Tests.{le-leb, lt-leb, eqb-true}
 use Rattle.reasons.specs.Reasons.{Outcome, gives, refuses}
 use Rattle.reasons.proofs.Laws.{gives-refuses, passed, went-on}
 use Rattle.stream.specs.Stream.{bitN, stream, number, ones, odd}
-use Rattle.bits.specs.Reading.{Letters, Track, forwardOf, reversedOf, next, allZero, finish, body, skip, begins, readOne, choose, readEither}
-use Rattle.bits.specs.Flip.{flipAt, flipBit, Reverses}
+use Rattle.chars.specs.Reading.{Letters, next, allZero, finish, body, skip, begins, readOne}
+use Rattle.bits.specs.Reading.{Track, forwardOf, reversedOf, choose, readEither}
+use Rattle.chars.specs.Flip.{flipAt}
+use Rattle.bits.specs.Flip.{flipBit, Reverses}
 use Rattle.stream.proofs.Streams.{length-stream}
 use Rattle.stream.proofs.Numbers.{bitN-le, bit-one, bit-zero}
-use Rattle.bits.proofs.Chars.{char-long, char-odd, char-number}
-use Rattle.bits.proofs.Flips.{take-early, odd-flip, begins-split, start-there, body-there, zero-first, stream-flip}
+use Rattle.chars.proofs.Chars.{char-long, char-odd, char-number}
+use Rattle.chars.proofs.Flips.{take-early, odd-flip, begins-split, start-there, body-there, zero-first, stream-flip}
 use Rattle.bits.proofs.FlipBytes.{flipped-stream, reversed-stream}
 use Rattle.bits.proofs.Laws.{taken, reads-forward}
 use Rattle.track2.specs.Track2.{track2, track2Rule}

@@ -3,7 +3,8 @@ use mathlib.Core.Bool.{true, false}
 use mathlib.Core.List.{List, [], _∷_}
 use Prim.Native.Nat.{ℕ}
 use Rattle.reasons.specs.Reasons.{Outcome}
-use Rattle.bits.specs.Reading.{Format, Track, readRule, readBytes}
+use Rattle.chars.specs.Reading.{Format}
+use Rattle.bits.specs.Reading.{Track, readRule, readBytes}
 
 -- "four data bits", byte "48 + number", start "bits 11010", end "15", "If the 39th character .. isn't the end sentinel"
 abbrev pub track2 : Format

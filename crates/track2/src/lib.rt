@@ -6,7 +6,7 @@ ghost use Rattle.track2.specs.Track2.{track2};
 pub fn read(stream: &[u8], bits: u64, out: &mut [u8]) -> bits::Read
     ensures { λ r. ⌜ Reads track2 (now (stream .entry)) bits (now (out .entry)) r (now (out .exit)) ⌝ }
 {
-    let h = bits::Shape {
+    let h = chars::Shape {
         size: 4,
         start: 5,
         first: 11,

@@ -18,7 +18,8 @@ use Rattle.creditor.specs.Creditor.{isPlain, laidOut as laidOutRF, creditorRule
 use Rattle.countries.specs.Countries.{kindFits, table, listedIn, rowIn, kindsOf, fits}
 use Rattle.iban.specs.Iban.{laidOut, ibanRule}
 use Rattle.stream.specs.Stream.{bitsFrom, stream, number as numberOfBits, ones}
-use Rattle.bits.specs.Reading.{next, allZero, finish, body, skip, begins, readOne, readEither, readRule}
+use Rattle.chars.specs.Reading.{next, allZero, finish, body, skip, begins, readOne}
+use Rattle.bits.specs.Reading.{readEither, readRule}
 use Rattle.layout.specs.Layout.{isNamed, isExpiry, isService, leading, fieldRule, restRule, serviceRule, expiryRule}
 use Rattle.layout1.specs.Layout1.{fieldsRule, nameRule, layout1Rule}
 use Rattle.slots.specs.Record.{isHeld, heldState, record32}

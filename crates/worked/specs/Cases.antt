@@ -17,7 +17,8 @@ use Rattle.pan.specs.Pan.{Masks}
 use Rattle.creditor.specs.Creditor.{creditorRule}
 use Rattle.iban.specs.Iban.{ibanRule}
 use Rattle.stream.specs.Stream.{number, bitsOf, ones}
-use Rattle.bits.specs.Reading.{Letters, Format, forwardOf, reversedOf, readRule}
+use Rattle.chars.specs.Reading.{Letters, Format}
+use Rattle.bits.specs.Reading.{forwardOf, reversedOf, readRule}
 use Rattle.track2.specs.Track2.{track2}
 use Rattle.track1.specs.Track1.{track1}
 use Rattle.layout.specs.Layout.{Cut}

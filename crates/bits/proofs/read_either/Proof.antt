@@ -1,6 +1,6 @@
 use borrow.Author.Needs.{needs}
 use native.Mathlib.Omega.{arith}
-use Rattle.bits.specs.Shape.{formatOf}
+use Rattle.chars.specs.Shape.{formatOf}
 use Rattle.bits.proofs.Rules.{refused-with, output-short, count-over, bytes-few, rule-reads, read-with}
 use Rattle.bits.proofs.read_either.Statement.{statement}
 use Rattle.bits.proofs.read_either.Tie as tie
@@ -24,7 +24,8 @@ add-if3 c = search needs
 returns-3 : tie.Need-returns-3
 returns-3 c =
     let a = c .before .before .before .before .before .before .args in
-    refused-with (formatOf (a .h)) (a .s .now) (a .bits) (a .out .now) _ (bytes-few (formatOf (a .h)) (a .s .now) (a .bits) _ (omega arith) (omega arith) (omega arith))
+    refused-with (formatOf (a .h)) (a .s .now) (a .bits) (a .out .now) _
+    (bytes-few (formatOf (a .h)) (a .s .now) (a .bits) _ (omega arith) (omega arith) (omega arith))
 
 read-ways-requires : tie.Need-read-ways-requires
 read-ways-requires c κs = search needs
@@ -36,7 +37,8 @@ returns-4 : tie.Need-returns-4
 returns-4 c =
     let w = c .before .before in
     let a = w .before .before .before .before .before .before .before .before .args in
-    read-with (formatOf (a .h)) (a .s .now) (a .bits) (a .out .now) _ _ _ (rule-reads (formatOf (a .h)) (a .s .now) (a .bits) _ (omega arith) (omega arith) (omega arith)) (w .read-ways .ensures)
+    read-with (formatOf (a .h)) (a .s .now) (a .bits) (a .out .now) _ _ _
+    (rule-reads (formatOf (a .h)) (a .s .now) (a .bits) _ (omega arith) (omega arith) (omega arith)) (w .read-ways .ensures)
 
 pub read-either-spec : {M : Type 1} → statement M
 read-either-spec =

@@ -4,8 +4,8 @@ use native.Mathlib.Omega.{arith}
 use mathlib.Core.Path.{_≡_, sym, ap, _∙_, subst}
 use lib.ListN.{length}
 use lib.Seq.{length-take-le}
-use Rattle.bits.specs.Shape.{found, foundCount}
-use Rattle.bits.specs.declared.Found.{Found}
+use Rattle.chars.specs.Shape.{found, foundCount}
+use Rattle.chars.specs.declared.Found.{Found}
 use Rattle.bits.proofs.Rules.{way-given, way-refused}
 use Rattle.bits.proofs.read_way.Statement.{statement}
 use Rattle.bits.proofs.read_way.Tie as tie
@@ -16,7 +16,8 @@ chars-77 c = search needs
 -- as many characters as the output takes, and as stand in chars
 count-fits : (c : tie.After-known-told) →
     let o = c .before .before .before .before in
-    (c .before .r .given .0 .0 + 2 ≤ o .before .before .before .before .args .h .limit) × (c .before .r .given .0 .0 ≤ length (o .read-one .last .1 .1 .1 .1 .0))
+    (c .before .r .given .0 .0 + 2 ≤ o .before .before .before .before .args .h .limit)
+    × (c .before .r .given .0 .0 ≤ length (o .read-one .last .1 .1 .1 .1 .0))
 count-fits c =
     let m = c .before .before .before in
     let o = m .before in
@@ -53,7 +54,8 @@ returns c =
     let k = c .before .before .before .before .before in
     let o = k .before .before .before .before in
     way-given _ (o .read-one .last .1 .1 .1 .1 .0) _ _ _ (count-fits k .1)
-    (sym (ap (λ (r : Found). found r (o .read-one .last .1 .1 .1 .1 .0)) (k .before .r .given .1)) ∙ o .read-one .ensures .0) (c .before .before .put-at .ensures)
+    (sym (ap (λ (r : Found). found r (o .read-one .last .1 .1 .1 .1 .0)) (k .before .r .given .1)) ∙ o .read-one .ensures .0)
+    (c .before .before .put-at .ensures)
 
 returns-2 : tie.Need-returns-2
 returns-2 c =

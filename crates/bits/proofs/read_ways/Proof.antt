@@ -1,5 +1,5 @@
 use borrow.Author.Needs.{needs}
-use Rattle.bits.specs.Shape.{formatOf}
+use Rattle.chars.specs.Shape.{formatOf}
 use Rattle.bits.proofs.Rules.{forward, reversed, neither}
 use Rattle.bits.proofs.read_ways.Statement.{statement}
 use Rattle.bits.proofs.read_ways.Tie as tie
@@ -43,7 +43,8 @@ returns-2 c =
     let f = v .before .before .before in
     let w = f .before .before .before .before in
     let a = w .before .before .before .before .args in
-    reversed (formatOf (a .h)) (a .s .now) (a .count) (a .out .now) _ _ _ (w .read-way .ensures) _ (v .read-way2 .ensures) _ (f .f2 .given .1) _ (c .before .g .given .1)
+    reversed (formatOf (a .h)) (a .s .now) (a .count) (a .out .now) _ _ _ (w .read-way .ensures) _ (v .read-way2 .ensures) _ (f .f2 .given .1)
+    _ (c .before .g .given .1)
 
 same-length-3 : tie.Need-same-length-3
 same-length-3 c = search needs
@@ -55,7 +56,8 @@ returns-3 c =
     let f = v .before .before .before in
     let w = f .before .before .before .before in
     let a = w .before .before .before .before .args in
-    neither (formatOf (a .h)) (a .s .now) (a .count) (a .out .now) _ _ _ (w .read-way .ensures) _ (v .read-way2 .ensures) _ (f .f2 .given .1) _ (c .blamed .result) (g .g2 .given .1) (c .blamed .ensures)
+    neither (formatOf (a .h)) (a .s .now) (a .count) (a .out .now) _ _ _ (w .read-way .ensures) _ (v .read-way2 .ensures) _ (f .f2 .given .1)
+    _ (c .blamed .result) (g .g2 .given .1) (c .blamed .ensures)
 
 pub read-ways-spec : {M : Type 1} → statement M
 read-ways-spec =

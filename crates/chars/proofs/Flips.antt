@@ -1,4 +1,4 @@
--- One bit flipped: in a character it breaks the parity, behind it the reading goes on with a flipped rest. Assumes nothing.
+-- One bit flipped: in a character it breaks the parity, behind it the reading goes on with a flipped rest.
 use mathlib.Core.Path.{_≡_, refl, sym, ap, _∙_, subst}
 use mathlib.Core.List.{List, [], _∷_, _++_}
 use mathlib.Core.Bool.{Bool, true, false, cond}
@@ -14,9 +14,9 @@ use borrow.Author.Tests.{eqb-true}
 use Rattle.reasons.specs.Reasons.{Outcome, gives, demand, andThen}
 use Rattle.reasons.proofs.Laws.{gives-refuses, passed, went-on}
 use Rattle.stream.specs.Stream.{number, ones, odd}
-use Rattle.bits.specs.Reading.{Letters, Format, next, allZero, finish, body, skip, begins, readOne}
-use Rattle.bits.specs.Flip.{flipAt, Proper}
-use Rattle.bits.proofs.Chars.{char-long, char-odd}
+use Rattle.chars.specs.Reading.{Letters, Format, next, allZero, finish, body, skip, begins, readOne}
+use Rattle.chars.specs.Flip.{flipAt, Proper}
+use Rattle.chars.proofs.Chars.{char-long, char-odd}
 
 pub length-flip : (i : ℕ) (s : List Bool) → length (flipAt i s) ≡ length s
 unfolding flipAt
@@ -111,7 +111,8 @@ module _ (d : ℕ) (go : ℕ → List Bool → Outcome (List ℕ))
           let same : gives (v .0) ≡ gives (u .0) = sym (v .1) ∙ ap (λ (k : ℕ). next d (flipAt k s)) e ∙ next-late d j s ∙ u .1 in
           let n : v .0 ≡ u .0 = cc in
           law (u .0) (drop (suc d) s) j (rw length-drop (omega arith)) a b (u .2)
-          (ap (go (u .0)) (sym (drop-late (suc d) j s) ∙ ap (λ (k : ℕ). drop (suc d) (flipAt k s)) (sym e)) ∙ ap (λ (k : ℕ). go k (drop (suc d) (flipAt i s))) (sym n) ∙ v .2)
+          (ap (go (u .0)) (sym (drop-late (suc d) j s) ∙ ap (λ (k : ℕ). drop (suc d) (flipAt k s)) (sym e))
+          ∙ ap (λ (k : ℕ). go k (drop (suc d) (flipAt i s))) (sym n) ∙ v .2)
 
 -- ---- the close, the characters, the start
 
@@ -173,7 +174,8 @@ module _ (f : Format) (s : List Bool) (a : List ℕ) (reads : readOne f s ≡ gi
   unfolding readOne
   start-there = passed (begins (f .start) (skip s)) 8 _ a reads .0
 
-  pub body-there : body (f .letters) (f .limit - 1) (number (take (f .letters .data-bits) (f .start))) [] (drop (suc (f .letters .data-bits)) (skip s)) ≡ gives a
+  pub body-there : body (f .letters) (f .limit - 1) (number (take (f .letters .data-bits) (f .start))) [] (drop (suc (f .letters .data-bits)) (skip s))
+      ≡ gives a
   unfolding readOne
   body-there = passed (begins (f .start) (skip s)) 8 _ a reads .1
 
@@ -190,7 +192,8 @@ module _ (f : Format) (ok : Proper f) where
       let t : begins (true ∷ ok .tail) (true ∷ s) ≡ true = rw (ok .is-start) at (start-there f (true ∷ s) b q) in
       let e : s ≡ ok .tail ++ drop (length (ok .tail)) s = begins-split (ok .tail) s t in
       let n : begins (true ∷ ok .tail) (skip s) ≡ true = rw (ok .is-start) at (start-there f (false ∷ s) a p) in
-      let m : begins (true ∷ ok .tail) (skip s) ≡ false = subst (λ (l : List Bool). begins (true ∷ ok .tail) (skip l) ≡ false) (sym e) (ok .clash (drop (length (ok .tail)) s)) in
+      let m : begins (true ∷ ok .tail) (skip s) ≡ false =
+      subst (λ (l : List Bool). begins (true ∷ ok .tail) (skip l) ≡ false) (sym e) (ok .clash (drop (length (ok .tail)) s)) in
       let z : _≡_ {A = ℕ} 0 1 = cc (sym n ∙ m) in omega arith
 
   pub stream-flip : (s : List Bool) (i : ℕ) → i < length s → (a b : List ℕ) → readOne f s ≡ gives a → readOne f (flipAt i s) ≡ gives b → ⊥
@@ -201,7 +204,8 @@ module _ (f : Format) (ok : Proper f) where
   stream-flip (false ∷ s) (suc i) h a b p q = stream-flip s i (le-of-suc-le-suc h) a b (zero-first f s ∙ p) (zero-first f (flipAt i s) ∙ q)
   stream-flip (true ∷ s) (suc i) h a b p q =
       ⊎-elim
-      (λ k. begins-flip (f .start) (true ∷ s) (suc i) (rw (ok .is-start) (rw (ok .long) k)) (start-there f (true ∷ s) a p) (start-there f (flipAt (suc i) (true ∷ s)) b q))
+      (λ k. begins-flip (f .start) (true ∷ s) (suc i) (rw (ok .is-start) (rw (ok .long) k)) (start-there f (true ∷ s) a p)
+      (start-there f (flipAt (suc i) (true ∷ s)) b q))
       (λ je. body-flip (f .letters) (f .limit - 1) (number (take (f .letters .data-bits) (f .start))) [] (drop (suc (f .letters .data-bits)) (true ∷ s)) (je .0)
       (rw length-drop (omega (arith, je .1))) a b
       (body-there f (true ∷ s) a p)

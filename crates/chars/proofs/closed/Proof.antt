@@ -1,7 +1,7 @@
 use borrow.Author.Needs.{needs}
 use native.Mathlib.Omega.{arith}
-use Rattle.bits.proofs.closed.Statement.{statement}
-use Rattle.bits.proofs.closed.Tie as tie
+use Rattle.chars.proofs.closed.Statement.{statement}
+use Rattle.chars.proofs.closed.Tie as tie
 
 enum-told : tie.Need-enum-told
 enum-told c = search needs

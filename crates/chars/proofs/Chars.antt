@@ -1,4 +1,4 @@
--- One character of a stream, and the close behind the end sentinel: what the functions find is what the definitions say. Assumes nothing.
+-- One character of a stream, and the close behind the end sentinel: what the functions find is what the definitions say.
 use mathlib.Core.Path.{_≡_, refl, sym, ap, ap₂, _∙_, subst}
 use mathlib.Core.Bool.{Bool, true}
 use mathlib.Core.List.{List, [], _∷_}
@@ -16,7 +16,7 @@ use borrow.Author.Tests.{lt-leb, le-leb, leb-true, ne-eqb, eq-eqb}
 use Rattle.reasons.specs.Reasons.{gives, refuses, demand}
 use Rattle.reasons.proofs.Laws.{passed}
 use Rattle.stream.specs.Stream.{bitN, stream, number, ones, odd, oddOnes}
-use Rattle.bits.specs.Reading.{next, allZero, finish}
+use Rattle.chars.specs.Reading.{next, allZero, finish}
 use Rattle.stream.proofs.Streams.{part, length-stream}
 use Rattle.stream.proofs.Numbers.{lowest, above, number-lt, number-take}
 

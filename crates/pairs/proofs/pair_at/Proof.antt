@@ -3,10 +3,10 @@ use mathlib.Core.Path.{ap, _∙_}
 use mathlib.Core.List.{List}
 use Prim.Native.Nat.{ℕ}
 use lib.ListN.{getD}
 use Rattle.pairs.specs.Pairs.{pairOf}
 use Rattle.pairs.proofs.Tables.{pair-at}
-use Rattle.bits.proofs.pair_at.Statement.{statement}
-use Rattle.bits.proofs.pair_at.Tie as tie
+use Rattle.pairs.proofs.pair_at.Statement.{statement}
+use Rattle.pairs.proofs.pair_at.Tie as tie
 
 ten-at-requires : tie.Need-ten-at-requires
 ten-at-requires c κs = search needs

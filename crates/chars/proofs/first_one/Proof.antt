@@ -5,10 +5,10 @@ use native.Mathlib.Omega.{arith}
 use lib.Count.{trailingZeros}
 use lib.ListN.{drop}
 use Rattle.stream.specs.Stream.{stream}
-use Rattle.bits.specs.Reading.{skip}
-use Rattle.bits.proofs.Walks.{skip-past, skip-to, skip-end}
-use Rattle.bits.proofs.first_one.Statement.{statement}
-use Rattle.bits.proofs.first_one.Tie as tie
+use Rattle.chars.specs.Reading.{skip}
+use Rattle.chars.proofs.Walks.{skip-past, skip-to, skip-end}
+use Rattle.chars.proofs.first_one.Statement.{statement}
+use Rattle.chars.proofs.first_one.Tie as tie
 
 abbrev Inv-loop : tie.InvT-loop
 Inv-loop s count reversed from at₀ at = (skip (drop from (stream reversed s count)) ≡ skip (drop at (stream reversed s count))) × (at ≤ count)

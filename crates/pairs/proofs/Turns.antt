@@ -11,11 +11,11 @@ use Rattle.reasons.specs.Reasons.{gives}
 use Rattle.stream.specs.Stream.{stream, number, oddOnes}
 use Rattle.stream.proofs.Streams.{part, length-stream}
 use Rattle.stream.proofs.Numbers.{number-take, number-drop}
-use Rattle.pairs.specs.Pairs.{pairOf}
-use Rattle.bits.specs.Reading.{Letters, next, body}
-use Rattle.bits.specs.Shape.{lettersOf, GoOn}
-use Rattle.bits.proofs.Chars.{char-is}
-use Rattle.bits.proofs.Bodies.{turn}
+use Rattle.pairs.specs.Pairs.{pairOf, GoOn, withTwo}
+use Rattle.chars.specs.Reading.{Letters, next, body}
+use Rattle.chars.specs.Shape.{lettersOf}
+use Rattle.chars.proofs.Chars.{char-is}
+use Rattle.chars.proofs.Bodies.{turn}
 
 -- the table's number for the ten bits in front, where it isn't 256: both characters are there
 module _ (l : List Bool) (long : 10 ≤ length l) (w : ℕ) (is : w ≡ number (take 10 l)) where
@@ -52,9 +52,8 @@ module _ (l : Letters) (v : Bool) (s : List ℕ) (c p more len x r : ℕ) (out :
       → gives n ≡ next (l .data-bits) (drop q (stream v s c))
   char-in q i e n f = rw (four, e, ← drop-drop) f
 
-  pub two-turns : body l (more - len) x (take len out) (drop p (stream v s c))
-      ≡ body l (more - (len + 2)) (bitXor (bitXor x (r % 16)) (r / 16)) (take (len + 2) (set (set out len (l .base + r % 16)) (len + 1) (l .base + r / 16)))
-      (drop (p + 10) (stream v s c))
+  two-turns : body l (more - len) x (take len out) (drop p (stream v s c))
+      ≡ body l (more - (len + 2)) (bitXor (bitXor x (r % 16)) (r / 16)) (take (len + 2) (withTwo out len (l .base) r)) (drop (p + 10) (stream v s c))
   two-turns =
       let i : p + l .data-bits + 1 + l .data-bits + 1 ≡ p + 10 = omega arith in
       let j : len + 1 + 1 ≡ len + 2 = omega arith in
@@ -62,6 +61,41 @@ module _ (l : Letters) (v : Bool) (s : List ℕ) (c p more len x r : ℕ) (out :
       ∙ turn l v s c (p + l .data-bits + 1) more (len + 1) (bitXor x (r % 16)) (r / 16) (set out len (l .base + r % 16)) (omega arith)
       (char-in (p + l .data-bits + 1) 5 (omega arith) (r / 16) (chars .1)) (rw length-set (omega arith)) (on .other)
       ∙ rw (i, j)
+
+  -- and what is left behind them, in the bytes and the exclusive or that take_two leaves
+  pub two-taken : (y : ℕ) (new : List ℕ) → y ≡ bitXor (bitXor x (r % 16)) (r / 16) → new ≡ withTwo out len (l .base) r
+      → body l (more - len) x (take len out) (drop p (stream v s c)) ≡ body l (more - (len + 2)) y (take (len + 2) new) (drop (p + 10) (stream v s c))
+  two-taken y new e w = two-turns ∙ rw (e, w)
+
+pub length-two : (out : List ℕ) (len base r : ℕ) → length (withTwo out len base r) ≡ length out
+length-two out len base r = rw (length-set, length-set)
+
+-- a look before the last one that there may be: its bits are there, its characters have room, and where the next one stands
+pub record Fits (count from limit looks at len room : ℕ) : Type 0 where
+  pub there : at + 32 ≤ count
+  pub ten : at + 10 ≤ count
+  pub next : at + 10 ≡ from + 5 * (len + 2)
+  pub within : len + 2 ≤ 2 * looks
+  pub less : 2 * looks - (len + 2) < 2 * looks - len
+  pub even : (len + 2) % 2 ≡ 0
+  pub more : len + 1 < limit - 1
+  pub fits : limit - 1 ≤ room
+  pub both : len + 2 ≤ room
+
+pub look-fits : (count from limit looks at len room lent : ℕ) → at ≡ from + 5 * len → len % 2 ≡ 0 → len < 2 * looks → 2 * looks ≤ limit - 1
+    → 10 * looks ≤ count - from - 22 → limit ≤ lent + 1 → room ≡ lent → Fits count from limit looks at len room
+look-fits count from limit looks at len room lent a e l m b o q =
+    record {
+      there = omega arith;
+      ten = omega arith;
+      next = omega arith;
+      within = omega arith;
+      less = omega arith;
+      even = omega arith;
+      more = omega arith;
+      fits = omega arith;
+      both = omega arith;
+    }
 
 -- what was shown for four data bits is so where there are four
 pub of-four : (d last base : ℕ) → d ≡ 4 → (k x : ℕ) (out : List ℕ) (s : List Bool) (m y : ℕ) (now : List ℕ) (t : List Bool)

@@ -1,4 +1,4 @@
--- The characters one by one: one turn of the loop, and its ends. Assumes nothing.
+-- The characters one by one: one turn of the loop, and its ends.
 use mathlib.Core.Path.{_≡_, sym, ap, _∙_}
 use mathlib.Core.Bool.{Bool}
 use mathlib.Core.List.{List, [], _∷_, _++_}
@@ -13,7 +13,7 @@ use lib.Pow.{pow-mono}
 use borrow.Author.Tests.{eq-eqb, ne-eqb}
 use Rattle.reasons.specs.Reasons.{gives, refuses}
 use Rattle.stream.specs.Stream.{stream}
-use Rattle.bits.specs.Reading.{Letters, next, finish, body}
+use Rattle.chars.specs.Reading.{Letters, next, finish, body}
 
 module _ (l : Letters) (x : ℕ) (out : List ℕ) (m : ℕ) (p : List Bool) where
   pub body-none : m ≡ 0 → refuses 11 ≡ body l m x out p
@@ -45,7 +45,8 @@ module _ (l : Letters) (v : Bool) (s : List ℕ) (c p more len x n : ℕ) (out :
 
   -- the end sentinel, and the close behind it
   pub ends : n ≡ l .end-number
-      → finish (l .data-bits) (bitXor x n) (take len out) (drop (p + l .data-bits + 1) (stream v s c)) ≡ body l (more - len) x (take len out) (drop p (stream v s c))
+      → finish (l .data-bits) (bitXor x n) (take len out) (drop (p + l .data-bits + 1) (stream v s c))
+      ≡ body l (more - len) x (take len out) (drop p (stream v s c))
   ends o = sym (rw (drop-drop, past)) ∙ body-end l x (take len out) (more - len) (drop p (stream v s c)) (omega arith) n e o
 
   -- another character: the bytes with one more

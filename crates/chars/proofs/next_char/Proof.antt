@@ -8,10 +8,10 @@ use lib.Pow.{pow-pos}
 use Rattle.reasons.specs.Reasons.{gives, demand}
 use Rattle.stream.specs.Stream.{stream}
 use Rattle.stream.proofs.Numbers.{power}
-use Rattle.bits.specs.Reading.{next}
-use Rattle.bits.proofs.Chars.{next-cut, next-is}
-use Rattle.bits.proofs.next_char.Statement.{statement}
-use Rattle.bits.proofs.next_char.Tie as tie
+use Rattle.chars.specs.Reading.{next}
+use Rattle.chars.proofs.Chars.{next-cut, next-is}
+use Rattle.chars.proofs.next_char.Statement.{statement}
+use Rattle.chars.proofs.next_char.Tie as tie
 
 -- the character whose parity was asked for
 asked : (c : tie.After-is-odd) (t : Bool) → c .is-odd .result ≡ t →

@@ -14,7 +14,7 @@ use borrow.Author.Tests.{eq-eqb, ne-eqb}
 use Rattle.stream.specs.Stream.{stream, number}
 use Rattle.stream.proofs.Streams.{length-stream, part, length-part, stream-fits}
 use Rattle.stream.proofs.Numbers.{lowest, above}
-use Rattle.bits.specs.Reading.{skip, allZero}
+use Rattle.chars.specs.Reading.{skip, allZero}
 
 -- bits whose number is 0 are zeros
 skips : (l rest : List Bool) → number l ≡ 0 → skip (l ++ rest) ≡ skip rest

@@ -1,7 +1,7 @@
 use borrow.Author.Needs.{needs}
-use Rattle.bits.proofs.Walks.{zeros-told}
-use Rattle.bits.proofs.all_zero.Statement.{statement}
-use Rattle.bits.proofs.all_zero.Tie as tie
+use Rattle.chars.proofs.Walks.{zeros-told}
+use Rattle.chars.proofs.all_zero.Statement.{statement}
+use Rattle.chars.proofs.all_zero.Tie as tie
 
 first-one-requires : tie.Need-first-one-requires
 first-one-requires c κs = search needs

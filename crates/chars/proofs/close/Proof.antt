@@ -8,11 +8,11 @@ use lib.ListN.{drop}
 use lib.Seq.{drop-drop}
 use Rattle.reasons.specs.Reasons.{gives, demand}
 use Rattle.stream.specs.Stream.{stream}
-use Rattle.bits.specs.Reading.{next, finish}
-use Rattle.bits.specs.Shape.{saidChar}
-use Rattle.bits.proofs.Chars.{char-fits, close-refused, close-wrong, close-right}
-use Rattle.bits.proofs.close.Statement.{statement}
-use Rattle.bits.proofs.close.Tie as tie
+use Rattle.chars.specs.Reading.{next, finish}
+use Rattle.chars.specs.Shape.{saidChar}
+use Rattle.chars.proofs.Chars.{char-fits, close-refused, close-wrong, close-right}
+use Rattle.chars.proofs.close.Statement.{statement}
+use Rattle.chars.proofs.close.Tie as tie
 
 -- the LRC character, where one was found: its number, and that its bits end within the stream
 number-is : (c : tie.After-known-told2) →

@@ -1,7 +1,7 @@
 use borrow.Author.Needs.{needs}
 use mathlib.Core.Bool.{true≢false}
-use Rattle.bits.proofs.stops.Statement.{statement}
-use Rattle.bits.proofs.stops.Tie as tie
+use Rattle.pairs.proofs.stops.Statement.{statement}
+use Rattle.pairs.proofs.stops.Tie as tie
 
 returns : tie.Need-returns
 returns c = λ e. absurd (true≢false e)
