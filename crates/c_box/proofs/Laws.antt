@@ -4,8 +4,9 @@ use Prim.Native.Nat.{ℕ}
 use mathlib.Core.Path.{_≡_}
 use mathlib.Core.List.{List}
 use Rattle.slots.proofs.Views.{one-view}
-use Rattle.journal.proofs.Laws.{one-booking, one-release, one-finding, one-telling}
-use Rattle.journal.proofs.Surveys.{one-survey}
+use Rattle.held.proofs.Laws.{one-finding, one-telling}
+use Rattle.journal.proofs.Laws.{one-booking, one-release}
+use Rattle.surveys.proofs.Surveys.{one-survey}
 use Rattle.swipe.specs.Swipe.{Given}
 use Rattle.swipe.proofs.Laws as swipe
 use Rattle.ledger.proofs.Laws.{take-one}

@@ -9,8 +9,8 @@ use Rattle.reasons.proofs.Laws.{gives-refuses}
 use Rattle.slots.specs.Journal.{slotsOf, Formed, NewestIs}
 use Rattle.slots.specs.declared.Newest.{Newest}
 use Rattle.slots.specs.declared.Newest.the-variants.{Malformed, Is}
-use Rattle.journal.specs.Rules.{showRule}
-use Rattle.journal.proofs.Rule.{show-bad}
+use Rattle.held.specs.Rules.{showRule}
+use Rattle.held.proofs.Rule.{show-bad}
 
 pub is-formed : (j : List ℕ) (m : Newest) (b : ℕ) → NewestIs j m → m ≡ Is b → Formed j (slotsOf j) b
 is-formed j m b f e = subst (λ (v : Newest). NewestIs j v) e f

@@ -3,8 +3,9 @@ use Prim.Native.Nat.{ℕ}
 use mathlib.Core.List.{List}
 use Rattle.stream.specs.Stream.{bitN}
 use Rattle.slots.specs.Views.{Seen}
-use Rattle.journal.specs.Rules.{Books, Releases, Finds, TellsOf, saidBooked, saidReleased, saidShown, saidTold}
-use Rattle.journal.specs.Survey.{Surveys, saidSurveyed}
+use Rattle.held.specs.Rules.{Finds, TellsOf, saidShown, saidTold}
+use Rattle.journal.specs.Rules.{Books, Releases, saidBooked, saidReleased}
+use Rattle.surveys.specs.Survey.{Surveys, saidSurveyed}
 use Rattle.walker.specs.Steps.{walkRule, startRule, stepRule}
 use Rattle.swipe.specs.Swipe.{Given, saidSwiped}
 use Rattle.swipe.specs.Swipe as swipe

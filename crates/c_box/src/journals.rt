@@ -1,9 +1,9 @@
 // The journal: journal_book, journal_release, journal_show, journal_tell, journal_survey.
+use held::Shown;
+use held::Told;
 use journal::Booked;
 use journal::Released;
-use journal::Shown;
-use journal::Surveyed;
-use journal::Told;
+use surveys::Surveyed;
 ghost use Rattle.c_box.specs.Calls.{JournalBooks, JournalReleases, JournalShows, JournalTells, JournalSurveys};
 
 pub fn journal_book(
@@ -43,7 +43,7 @@ pub fn journal_release(journal: &mut [u8], serial: u32, count: &mut u32, sum: &m
 pub fn journal_show(journal: &[u8], serial: u32, at: &mut u32) -> u32
     ensures { λ r. ⌜ JournalShows (now (journal .entry)) serial (now (at .entry)) r (now (at .exit)) ⌝ }
 {
-    match journal::find(journal, serial) {
+    match held::find(journal, serial) {
         Shown::At(a) => {
             *at = a as u32;
             0
@@ -63,7 +63,7 @@ pub fn journal_tell(
         (now (count .entry), now (sum .entry), now (oldest .entry), now (newest .entry)) r
         (now (count .exit), now (sum .exit), now (oldest .exit), now (newest .exit)) ⌝ }
 {
-    match journal::tell(journal) {
+    match held::tell(journal) {
         Told::Held(c, y, o, b) => {
             *count = c;
             *sum = y;
@@ -78,7 +78,7 @@ pub fn journal_tell(
 pub fn journal_survey(journal: &[u8], states: &mut [u8], formed: &mut u32) -> u32
     ensures { λ r. ⌜ JournalSurveys (now (journal .entry)) (now (states .entry)) (now (formed .entry)) r (now (formed .exit)) (now (states .exit)) ⌝ }
 {
-    match journal::survey(journal, states) {
+    match surveys::survey(journal, states) {
         Surveyed::Formed => {
             *formed = 1;
             0

@@ -1,6 +1,6 @@
 // Walks: journal_walk, whose every step checks the journal; walk_start, which checks it once, and walk_step, which does not.
-use journal::Shown;
-use journal::Told;
+use held::Shown;
+use held::Told;
 use slots::Newest;
 ghost use Rattle.c_box.specs.Calls.{JournalWalks, WalkStarts, WalkSteps};
 
@@ -23,7 +23,7 @@ pub fn journal_walk(journal: &[u8], above: u32, serial: &mut u32, at: &mut u32) 
 pub fn walk_start(journal: &[u8], serial: &mut u32) -> u32
     ensures { λ r. ⌜ WalkStarts (now (journal .entry)) (now (serial .entry)) r (now (serial .exit)) ⌝ }
 {
-    match journal::tell(journal) {
+    match held::tell(journal) {
         Told::Held(_, _, o, _) => {
             *serial = o;
             0

@@ -2,7 +2,7 @@
 use disk::Opened;
 use disk::Stored;
 use disk::Use;
-use journal::Told;
+use held::Told;
 use lock::Taken;
 use options::Asked;
 use options::notices;
@@ -58,7 +58,7 @@ fn run_formed(name: &[u8], journal: &mut [u8], n: usize, fd: i32, read_only: boo
 fn run_file(name: &[u8], journal: &mut [u8], n: usize, fd: i32, read_only: bool)
     requires { ⌜ (n ≤ length (now journal)) × (65536 ≤ length (now journal)) ⌝ }
 {
-    match journal::tell(&journal[0..n]) {
+    match held::tell(&journal[0..n]) {
         Told::Held(held, _, _, _) => run_formed(name, journal, n, fd, read_only, held),
         Told::Refused(_) => {
             notices::malformed(name, n);

@@ -12,7 +12,7 @@ use Rattle.slots.specs.Record.{amountAt}
 use Rattle.slots.specs.Journal.{slotsOf, Formed}
 use Rattle.slots.specs.declared.Newest.the-variants.{Is}
 use Rattle.slots.proofs.Ranges.{tells-yes}
-use Rattle.journal.specs.Held.{heldUpTo, heldList, serialOf, sumOf}
+use Rattle.held.specs.Held.{heldUpTo, heldList, serialOf, sumOf}
 use Rattle.journal.specs.Rules.{Releases, releaseBytes}
 use Rattle.journal.specs.declared.Released.{Released}
 use Rattle.journal.specs.declared.Released.the-variants as released

@@ -8,10 +8,10 @@ use Rattle.slots.specs.Journal.{slotsOf}
 use Rattle.slots.specs.declared.Newest.the-variants.{Is}
 use Rattle.slots.proofs.Form.{formed-one}
 use Rattle.slots.proofs.Clocks.{clock-view}
-use Rattle.journal.specs.Held.{heldList, SameRecord, SameRecords, none, more}
+use Rattle.held.specs.Held.{heldList, SameRecord, SameRecords, none, more}
 use Rattle.journal.specs.Rules.{Releases}
 use Rattle.journal.specs.declared.Released.{Released}
-use Rattle.journal.proofs.Clocks.{clock-list}
+use Rattle.held.proofs.Clocks.{clock-list}
 use Rattle.history.specs.History.{Call, release, AnswerTo, Does, Done, SameOutcomes, no-outcomes, same-outcome}
 use Rattle.history.proofs.Twins.{clocks-same, twin}
 use Rattle.ledger.specs.Ledger.{wants, Takes}

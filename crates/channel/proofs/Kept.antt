@@ -12,7 +12,7 @@ use Rattle.slots.specs.Record.{amountAt}
 use Rattle.slots.specs.Journal.{slotsOf, NewestIs}
 use Rattle.slots.specs.declared.Newest.the-variants.{Is}
 use Rattle.slots.proofs.Form.{formed-one}
-use Rattle.journal.specs.Held.{heldList}
+use Rattle.held.specs.Held.{heldList}
 use Rattle.journal.specs.declared.Booked.{Booked}
 use Rattle.journal.specs.declared.Booked.the-variants as booking
 use Rattle.journal.specs.declared.Released.{Released}

@@ -16,13 +16,14 @@ use Rattle.slots.specs.Record.{isHeld}
 use Rattle.slots.specs.Journal.{slotsOf, place, stateOf, Formed}
 use Rattle.slots.proofs.Views.{known}
 use Rattle.slots.proofs.Records.{serial-of}
-use Rattle.journal.specs.Held.{lowOf, heldUpTo, heldList, serialOf, sumOf}
-use Rattle.journal.specs.Rules.{Releases, saidReleased, heldIn, freedAfter}
+use Rattle.held.specs.Held.{lowOf, heldUpTo, heldList, serialOf, sumOf}
+use Rattle.held.specs.Rules.{heldIn}
+use Rattle.journal.specs.Rules.{Releases, saidReleased, freedAfter}
 use Rattle.journal.specs.declared.Released.{Released}
 use Rattle.journal.specs.declared.Released.the-variants as released
 use Rattle.journal.proofs.Rule.{release-none, release-done}
 use Rattle.journal.proofs.Radio.{freed-bytes}
-use Rattle.journal.proofs.Lists.{held-none}
+use Rattle.held.proofs.Lists.{held-none}
 use Rattle.journal.proofs.Walks.{freed-not}
 use Rattle.journal.proofs.Laws.{released-one}
 use Rattle.journal.proofs.Calls.{release-refused}

@@ -11,8 +11,8 @@ use Rattle.slots.specs.Record.{isHeld, isRecord, kept, lengthFits, stateAt, len
 use Rattle.slots.specs.Journal.{slotsOf, place, stateOf, Formed}
 use Rattle.slots.proofs.Ring.{place-in}
 use Rattle.slots.proofs.Records.{good-same, serial-of, amount-of}
-use Rattle.journal.specs.Held.{recordAt, heldAfter, heldList, lowOf}
-use Rattle.journal.proofs.Laws.{record-serial}
+use Rattle.held.specs.Held.{recordAt, heldAfter, heldList, lowOf}
+use Rattle.held.proofs.Laws.{record-serial}
 use Rattle.history.specs.History.{Done, Payment, recordOf, booked, highest, Demand3}
 use Rattle.history.proofs.Account.{Smalls}
 use Rattle.ledger.specs.Ledger.{HeldRecord}

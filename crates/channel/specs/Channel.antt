@@ -9,7 +9,7 @@ use lib.Dec.{ltb}
 use lib.ListN.{length, replicate}
 use Rattle.slots.specs.Journal.{NewestIs, SameButClocks}
 use Rattle.slots.specs.declared.Newest.the-variants.{Is}
-use Rattle.journal.specs.Held.{heldList, serialOf, SameRecords}
+use Rattle.held.specs.Held.{heldList, serialOf, SameRecords}
 use Rattle.journal.specs.Rules.{Releases}
 use Rattle.journal.specs.declared.Released.{Released}
 use Rattle.history.specs.History.{Call, book, swipe, release, reads, aside, AnswerTo, Done, Does, SameOutcomes}

@@ -22,9 +22,9 @@ use Rattle.slots.specs.Journal.{slotsOf, place, stateOf, NewestIs}
 use Rattle.slots.proofs.Ranges.{differ}
 use Rattle.slots.specs.declared.Newest.{Newest}
 use Rattle.slots.specs.declared.Newest.the-variants.{Malformed, Is}
-use Rattle.journal.specs.Held.{recordAt, heldAfter, heldList, lowOf}
-use Rattle.journal.specs.Rules.{showRule, heldIn}
-use Rattle.journal.proofs.Rule.{shown-in}
+use Rattle.held.specs.Held.{recordAt, heldAfter, heldList, lowOf}
+use Rattle.held.specs.Rules.{showRule, heldIn}
+use Rattle.held.proofs.Rule.{shown-in}
 use Rattle.history.specs.History.{Call, book, release, aside, Done}
 use Rattle.plays.specs.Script.{kindAt, panAt, labelAt, amountAt, serialAt, swipeAt, callAt}
 use Rattle.layout.specs.declared.Track.the-variants.{Two, One}

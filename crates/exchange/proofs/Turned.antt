@@ -12,9 +12,9 @@ use Rattle.reasons.specs.Reasons.{after}
 use Rattle.reasons.specs.declared.Reason.{Reason}
 use Rattle.journal.proofs.Rule.{new-after, same-after}
 use Rattle.slots.specs.Views.{Seen}
-use Rattle.journal.specs.Rules.{showRule, saidShown, Finds}
-use Rattle.journal.specs.declared.Shown.{Shown}
-use Rattle.journal.specs.declared.Shown.the-variants.{At, Refused}
+use Rattle.held.specs.Rules.{showRule, saidShown, Finds}
+use Rattle.held.specs.declared.Shown.{Shown}
+use Rattle.held.specs.declared.Shown.the-variants.{At, Refused}
 use Rattle.history.specs.History.{Call, release, aside, takings, booked, freedCount, freedSum}
 use Rattle.plays.specs.Script.{kindAt, serialAt, callAt, refusedCount, skippedCount, TotalsOf, Nothing, Bounded, PlaysOne}
 use Rattle.plays.specs.declared.Totals.{Totals}

@@ -8,7 +8,7 @@ use lib.ListN.{length, take, drop, replicate}
 use Rattle.text.specs.Numbers.{u32At, put}
 use Rattle.reasons.specs.Reasons.{Outcome, gives, refuses, after}
 use Rattle.slots.specs.Views.{Seen}
-use Rattle.journal.specs.Rules.{showRule}
+use Rattle.held.specs.Rules.{showRule}
 use Rattle.history.specs.History.{Call, release, aside, AnswerTo, Does, Done}
 use Rattle.plays.specs.Script.{kindAt, serialAt, clockAt, callAt, scratchLeft, TotalsOf}
 use Rattle.ledger.specs.Ledger.{opened, Takes}

@@ -1,6 +1,6 @@
 // Runs a script of what happens between box and host: the box's calls, the records that it sends, and the messages and answers that arrive. Box and
 // host agree then, whatever the script lets the channel lose, repeat or bring out of order.
-use journal::Shown;
+use held::Shown;
 use ledger::Ledger;
 use ledger::Taken;
 use plays::Totals;
@@ -16,7 +16,7 @@ ghost use lib.Dec.{eqb, leb};
 ghost use lib.ListN.{length, take, drop, replicate};
 ghost use Rattle.reasons.specs.Reasons.{after};
 ghost use Rattle.slots.specs.Views.{Seen};
-ghost use Rattle.journal.specs.Rules.{showRule};
+ghost use Rattle.held.specs.Rules.{showRule};
 ghost use Rattle.plays.specs.Script.{serialAt, clockAt, Nothing, PlaysOne, scriptRule};
 ghost use Rattle.exchange.specs.Exchange.{asState, deliver, answer, ownAt, turnAt, posted, RunsAll, Exchanges, Agrees};
 ghost use Rattle.exchange.specs.Inner.{Took};
@@ -79,7 +79,7 @@ fn send(journal: &[u8], serial: u32, air: &mut [u8], place: u32)
     ensures { λ _. ⌜ Seen (now (journal .entry)) (λ m. now (air .exit) ≡ after (showRule m (now (journal .entry)) serial) (now (air .entry))
         (λ at. posted (now (air .entry)) place (take 32 (drop at (now (journal .entry)))))) ⌝ }
 {
-    match journal::find(journal, serial) {
+    match held::find(journal, serial) {
         Shown::Refused(_) => {}
         Shown::At(at) => post(air, place as usize, &journal[at..at + 32]),
     }

@@ -11,9 +11,10 @@ use Rattle.slots.specs.Journal.{NewestIs, SameButClocks, slotsOf, place}
 use Rattle.slots.specs.declared.Newest.{Newest}
 use Rattle.slots.specs.declared.Newest.the-variants.{Malformed, Is}
 use Rattle.slots.proofs.Views.{known}
-use Rattle.journal.specs.Held.{heldList}
-use Rattle.journal.specs.Rules.{tellRule, saidBooked, saidReleased, saidShown, saidTold}
-use Rattle.journal.specs.Survey.{saidSurveyed}
+use Rattle.held.specs.Held.{heldList}
+use Rattle.held.specs.Rules.{tellRule, saidShown, saidTold}
+use Rattle.journal.specs.Rules.{saidBooked, saidReleased}
+use Rattle.surveys.specs.Survey.{saidSurveyed}
 use Rattle.swipe.specs.Swipe.{saidSwiped}
 use Rattle.walker.specs.Walk.{heldHere, heldRule, nextOf}
 use Rattle.walker.specs.Steps.{walkRule, startRule, stepRule, Above, Onward}

@@ -4,8 +4,9 @@ use mathlib.Core.Path.{_≡_}
 use mathlib.Core.List.{List, [], _∷_}
 use Rattle.stream.specs.Stream.{bitN}
 use Rattle.slots.specs.Journal.{SameButClocks}
-use Rattle.journal.specs.Rules.{saidBooked, saidReleased, saidShown, saidTold}
-use Rattle.journal.specs.Survey.{saidSurveyed}
+use Rattle.held.specs.Rules.{saidShown, saidTold}
+use Rattle.journal.specs.Rules.{saidBooked, saidReleased}
+use Rattle.surveys.specs.Survey.{saidSurveyed}
 use Rattle.swipe.specs.Swipe.{Given, saidSwiped}
 use Rattle.history.specs.History.{Call, book, swipe, release, reads, find, tell, survey, walkAbove, walkFirst, walkStep, AnswerTo, Done}
 use Rattle.hands.specs.Hands.{Hands}

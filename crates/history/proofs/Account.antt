@@ -8,14 +8,14 @@ use lib.ListN.{length, length-append}
 use Rattle.slots.specs.Journal.{Formed, NewestIs, slotsOf}
 use Rattle.slots.specs.declared.Newest.the-variants.{Is}
 use Rattle.slots.proofs.Views.{known}
-use Rattle.journal.specs.Held.{heldAfter, heldUpTo, heldList, sumOf}
+use Rattle.held.specs.Held.{heldAfter, heldUpTo, heldList, sumOf}
 use Rattle.journal.specs.Rules.{Books, Releases}
 use Rattle.journal.specs.declared.Booked.{Booked}
 use Rattle.journal.specs.declared.Booked.the-variants as booking
 use Rattle.journal.specs.declared.Released.{Released}
 use Rattle.journal.specs.declared.Released.the-variants as releasing
-use Rattle.journal.proofs.Lists.{held-at-most, held-count}
-use Rattle.journal.proofs.Calls.{Booked-so, book-changes, book-refused, Released-so, release-changes, release-refused, sum-append}
+use Rattle.held.proofs.Lists.{held-at-most, held-count, sum-append}
+use Rattle.journal.proofs.Calls.{Booked-so, book-changes, book-refused, Released-so, release-changes, release-refused}
 use Rattle.reasons.specs.Reasons.{Outcome, gives}
 use Rattle.swipe.specs.Swipe.{Given, Payer, cardRule}
 use Rattle.swipe.specs.declared.Swiped.{Swiped}

@@ -15,10 +15,9 @@ use Rattle.text.proofs.Tests.{under, inside, inside-is}
 use Rattle.slots.specs.Record.{isHeld}
 use Rattle.slots.specs.Journal.{slotsOf, stateOf}
 use Rattle.slots.proofs.Records.{amount-of}
-use Rattle.journal.specs.Held.{lowOf, heldAfter, heldList, sumOf}
-use Rattle.journal.specs.Rules.{heldIn}
-use Rattle.journal.proofs.Lists.{held-append, held-at-most}
-use Rattle.journal.proofs.Calls.{sum-append}
+use Rattle.held.specs.Held.{lowOf, heldAfter, heldList, sumOf}
+use Rattle.held.specs.Rules.{heldIn}
+use Rattle.held.proofs.Lists.{held-append, held-at-most, sum-append}
 use Rattle.history.specs.History.{Payment, recordOf, takings, Done, Run, booked, highest, freedCount, freedSum, Demand3}
 use Rattle.history.proofs.Account.{Smalls, Account, Open, closes, up-count, account}
 

@@ -4,9 +4,10 @@ use mathlib.Core.Path.{_≡_, refl, sym, _∙_, subst, subst⁻¹}
 use mathlib.Core.List.{List, _∷_, map}
 use Rattle.reasons.specs.Reasons.{Outcome}
 use Rattle.slots.proofs.Views.{one-view}
-use Rattle.journal.specs.Rules.{showRule}
-use Rattle.journal.proofs.Laws.{one-booking, one-release, one-finding, one-telling, one-number}
-use Rattle.journal.proofs.Surveys.{one-survey}
+use Rattle.held.specs.Rules.{showRule}
+use Rattle.held.proofs.Laws.{one-finding, one-telling, one-number}
+use Rattle.journal.proofs.Laws.{one-booking, one-release}
+use Rattle.surveys.proofs.Surveys.{one-survey}
 use Rattle.swipe.proofs.Laws.{swipe-one}
 use Rattle.walker.specs.Walk.{heldRule}
 use Rattle.history.specs.History.{Question, find, show, showNumber, tell, survey, ReplyTo, Replies, Part}

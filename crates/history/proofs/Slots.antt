@@ -16,8 +16,8 @@ use Rattle.slots.specs.declared.Newest.{Newest}
 use Rattle.slots.proofs.States.{free-no-record}
 use Rattle.slots.proofs.Records.{good-same}
 use Rattle.slots.proofs.Clocks.{slot-byte, slot-state, clocks-turned, clock-view}
-use Rattle.journal.specs.Survey.{Belongs, SlotIs, free, held, released, damaged, surveyRule, Fills, filled, unfilled, Surveys}
-use Rattle.journal.specs.declared.Surveyed.{Surveyed}
+use Rattle.surveys.specs.Survey.{Belongs, SlotIs, free, held, released, damaged, surveyRule, Fills, filled, unfilled, Surveys}
+use Rattle.surveys.specs.declared.Surveyed.{Surveyed}
 
 module _ (j k : List ℕ) (s : SameButClocks j k) where
   pub clock-serial : (x : ℕ) → serialAt j (32 * x) ≡ serialAt k (32 * x)

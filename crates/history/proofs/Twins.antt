@@ -15,11 +15,13 @@ use Rattle.slots.proofs.Clocks.{slot-state}
 use Rattle.slots.specs.Journal.{SameButClocks, slotsOf, place, stateOf}
 use Rattle.slots.specs.Views.{Seen, formed, newest}
 use Rattle.slots.specs.declared.Newest.{Newest}
-use Rattle.journal.specs.Held.{recordAt, SameRecord, heldAfter, lowOf, firstOf}
-use Rattle.journal.specs.Rules.{Shows, the-record, nothing, ShowsOf, showRule, heldIn, Telling}
-use Rattle.journal.proofs.Laws.{booked-one, released-one, told-one, shown-one}
-use Rattle.journal.proofs.Surveys.{one-survey}
-use Rattle.journal.proofs.Clocks.{same-first, clock-held, clock-shown, clock-book, clock-release, clock-tell, clock-show, clock-book-bytes, clock-release-bytes}
+use Rattle.held.specs.Held.{recordAt, SameRecord, heldAfter, lowOf, firstOf}
+use Rattle.held.specs.Rules.{Shows, the-record, nothing, ShowsOf, showRule, heldIn, Telling}
+use Rattle.held.proofs.Laws.{told-one, shown-one}
+use Rattle.journal.proofs.Laws.{booked-one, released-one}
+use Rattle.surveys.proofs.Surveys.{one-survey}
+use Rattle.held.proofs.Clocks.{same-first, clock-held, clock-shown, clock-tell, clock-show}
+use Rattle.journal.proofs.Clocks.{clock-book, clock-release, clock-book-bytes, clock-release-bytes}
 use Rattle.walker.specs.Walk.{heldHere, heldRule, nextOf}
 use Rattle.walker.specs.Steps.{firstAbove, walkPlace, walkRule, startRule, stepRule}
 use Rattle.history.proofs.Views.{both}

@@ -1,7 +1,7 @@
 -- Demand 3. Start from an all-zero journal of 1 to 2,048 slots, written only by booking, release and swipe, each lent it whole as its journal:
 -- what holds after any sequence of calls, refused ones and reading ones among them. Points 1 to 3 are `Demand3`, point 4 is `SameOutcomes`;
 -- proofs/Laws.antt has the theorems `demand-3` and `clocks-decide-nothing`. Assumes nothing.
-use Prim.Native.Nat.{ℕ, zero, suc, max, _+_, _-_, _≤_, _<_}
+use Prim.Native.Nat.{ℕ, zero, suc, max, _+_, _≤_, _<_}
 use mathlib.Core.Path.{_≡_}
 use mathlib.Core.Bool.{true}
 use mathlib.Core.List.{List, [], _∷_, _++_, map}
@@ -12,16 +12,17 @@ use Rattle.text.specs.Bytes.{within}
 use Rattle.slots.specs.Record.{record32}
 use Rattle.slots.specs.Journal.{NewestIs, SameButClocks}
 use Rattle.slots.specs.declared.Newest.the-variants.{Is}
-use Rattle.journal.specs.Held.{heldList, sumOf, SameRecord}
-use Rattle.journal.specs.Rules.{Books, Releases, Finds, Shows, ShowsOf, NumberOfShow, TellsOf, heldIn}
-use Rattle.journal.specs.Survey.{Surveys}
+use Rattle.held.specs.Held.{heldList, sumOf, SameRecord}
+use Rattle.held.specs.Rules.{Finds, Shows, ShowsOf, NumberOfShow, TellsOf, heldIn}
+use Rattle.journal.specs.Rules.{Books, Releases}
+use Rattle.surveys.specs.Survey.{Surveys}
 use Rattle.journal.specs.declared.Booked.{Booked}
 use Rattle.journal.specs.declared.Booked.the-variants as booking
 use Rattle.journal.specs.declared.Released.{Released}
 use Rattle.journal.specs.declared.Released.the-variants as releasing
-use Rattle.journal.specs.declared.Shown.{Shown}
-use Rattle.journal.specs.declared.Told.{Told}
-use Rattle.journal.specs.declared.Surveyed.{Surveyed}
+use Rattle.held.specs.declared.Shown.{Shown}
+use Rattle.held.specs.declared.Told.{Told}
+use Rattle.surveys.specs.declared.Surveyed.{Surveyed}
 use Rattle.walker.specs.Walk.{heldRule, nextOf, StartsAt, StartNumber}
 use Rattle.walker.specs.Steps.{walkRule, startRule, stepRule}
 use Rattle.slots.specs.Views.{Seen}

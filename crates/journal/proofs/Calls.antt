@@ -1,4 +1,4 @@
--- What the promises of book and release say of the held list: the laws that a history of calls cites. Assumes nothing.
+-- What the promises of book and release say of the held list: the laws that a history of calls cites.
 use Prim.Native.Nat.{ℕ, _≤_, _<_, _+_, _-_, _/_}
 use mathlib.Core.Path.{_≡_, refl, sym, ap, _∙_, subst, subst⁻¹}
 use mathlib.Core.Bool.{false, not}
@@ -16,7 +16,7 @@ use Rattle.text.specs.Numbers.{put}
 use Rattle.pan.specs.Pan.{panLength}
 use Rattle.slots.specs.Record.{record32}
 use Rattle.slots.specs.Journal.{place, Formed, NewestIs, slotsOf}
-use Rattle.journal.specs.Held.{lowOf, heldAfter, heldUpTo, heldList, sumOf}
+use Rattle.held.specs.Held.{lowOf, heldAfter, heldUpTo, heldList, sumOf}
 use Rattle.journal.specs.Rules.{full, bookRule, bookBytes, releaseRule, releaseBytes, freedAfter, Tally, Books, Releases}
 use Rattle.journal.proofs.Rule.{Fine, same-after, new-after}
 use Rattle.journal.proofs.Lists.{book-held, after-length}
@@ -26,13 +26,6 @@ use Rattle.slots.specs.declared.Newest.the-variants.{Is}
 use Rattle.reasons.specs.declared.Reason.{Reason}
 use Rattle.journal.specs.declared.Booked.the-variants as booked
 use Rattle.journal.specs.declared.Released.the-variants as released
-
--- ---- sums of lists
-
-pub sum-append : (a b : List (List ℕ)) → sumOf (a ++ b) ≡ sumOf a + sumOf b
-unfolding sumOf
-sum-append [] b = omega arith
-sum-append (r ∷ a) b = let ih = sum-append a b in omega arith
 
 -- ---- a refusal changes nothing
 

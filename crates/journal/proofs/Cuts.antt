@@ -1,5 +1,5 @@
 -- A power cut while a call's changed bytes are copied, in the order of its writes, to memory that outlives the power: after any number of them.
--- Assumes nothing.
+--
 use Prim.Native.Nat.{ℕ, zero, suc, _≤_, _<_, _+_, _-_, _*_, _/_, _%_}
 use mathlib.Core.Path.{_≡_, refl, sym, ap, _∙_, subst, subst⁻¹}
 use mathlib.Core.Bool.{Bool, true, false, cond}
@@ -25,11 +25,11 @@ use Rattle.slots.proofs.Ring.{kept-at, place-in}
 use Rattle.slots.proofs.Form.{serial-le}
 use Rattle.slots.proofs.Records.{record-long, u32-in}
 use Rattle.slots.proofs.Writes.{wrote-length, first-writes, outside, state-last, wrote-put}
-use Rattle.journal.specs.Held.{lowOf, recordAt, heldAfter, heldList}
+use Rattle.held.specs.Held.{lowOf, recordAt, heldAfter, heldList}
 use Rattle.journal.specs.Rules.{heldSlots, bookRule, bookBytes, bookWrites, Tally, releaseRule, releaseBytes, releaseWrites, freedAt, freedAfter, freeWrites}
 use Rattle.journal.proofs.Rule.{same-after, new-after, release-none, release-done, release-bad, book-bad}
 use Rattle.journal.proofs.Full.{next-full}
-use Rattle.journal.proofs.Lists.{held-up, held-none}
+use Rattle.held.proofs.Lists.{held-up, held-none}
 use Rattle.journal.proofs.Freed.{freed-other, apart}
 use Rattle.journal.proofs.Calls.{booking-of}
 

@@ -1,4 +1,4 @@
--- What a release does to the journal's bytes and to the list of held records. Assumes nothing.
+-- What a release does to the journal's bytes and to the list of held records.
 use Prim.Native.Nat.{ℕ, zero, suc, _≤_, _<_, _+_, _*_}
 use mathlib.Core.Path.{_≡_, refl, sym, ap, _∙_, subst⁻¹}
 use mathlib.Core.Bool.{Bool, true, false, cond, _||_}
@@ -12,9 +12,9 @@ use Rattle.slots.specs.Record.{isHeld, isReleased, freedState, lengthFits, kept
 use Rattle.slots.proofs.States as States
 use Rattle.slots.proofs.States.{freed-kept, freed-released, freed-not-held}
 use Rattle.slots.proofs.Ring.{place-apart, place-in}
-use Rattle.journal.specs.Held.{heldAfter}
+use Rattle.held.specs.Held.{heldAfter}
 use Rattle.journal.specs.Rules.{freedAt, freedAfter}
-use Rattle.journal.proofs.Lists.{held-append, held-same, held-none}
+use Rattle.held.proofs.Lists.{held-append, held-same, held-none}
 
 -- ---- one state byte
 

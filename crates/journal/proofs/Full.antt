@@ -1,4 +1,4 @@
--- The journal is full exactly where the slot of the next serial is held. Assumes nothing.
+-- The journal is full exactly where the slot of the next serial is held.
 use Prim.Native.Nat.{ℕ, zero, suc, _≤_, _<_, _+_, _-_, _*_, _%_}
 use mathlib.Core.Path.{_≡_, refl, sym, ap, _∙_, subst}
 use mathlib.Core.Bool.{Bool, true, false, _&&_, and-false}

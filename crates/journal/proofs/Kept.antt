@@ -1,4 +1,4 @@
--- Booking and releasing keep a journal well formed. Assumes nothing.
+-- Booking and releasing keep a journal well formed.
 use Prim.Native.Nat.{ℕ, _≤_, _<_, _+_, _-_, _*_, _%_}
 use mathlib.Core.Path.{_≡_, sym, ap, _∙_, subst⁻¹}
 use mathlib.Core.Bool.{Bool, true, _||_, or-true}

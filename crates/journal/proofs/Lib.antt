@@ -7,7 +7,6 @@ pub mod Kept
 pub mod Calls
 pub mod Laws
 pub mod Refusals
-pub mod Surveys
 pub mod Cuts
 pub mod Radio
 pub mod Clocks

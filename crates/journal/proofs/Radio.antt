@@ -1,4 +1,4 @@
--- Laws for the radio: releases repeated, out of order, and what they never do. Assumes nothing.
+-- Laws for the radio: releases repeated, out of order, and what they never do.
 use Prim.Native.Nat.{ℕ, zero, suc, _≤_, _<_, _+_, _-_, _/_}
 use mathlib.Core.Path.{_≡_, refl, sym, ap, _∙_}
 use mathlib.Core.Bool.{Bool, true, false, cond}
@@ -13,10 +13,10 @@ use Rattle.slots.specs.Journal.{slotsOf, stateOf, place, Formed}
 use Rattle.slots.specs.declared.Newest.the-variants.{Is}
 use Rattle.slots.proofs.Ranges.{differ}
 use Rattle.slots.proofs.States.{free-not-held}
-use Rattle.journal.specs.Held.{lowOf, heldAfter, heldUpTo, sumOf}
+use Rattle.held.specs.Held.{lowOf, heldAfter, heldUpTo, sumOf}
 use Rattle.journal.specs.Rules.{releaseRule, releaseBytes, freedAt, freedAfter}
 use Rattle.journal.proofs.Rule.{new-after, release-done}
-use Rattle.journal.proofs.Lists.{held-none}
+use Rattle.held.proofs.Lists.{held-none}
 use Rattle.journal.proofs.Walks.{freed-not}
 use Rattle.journal.proofs.Freed.{freed-other, freed-here, freed-byte, all-length, all-here}
 

@@ -1,21 +1,19 @@
--- "Each is given exactly when its condition is the first to hold in the order stated for that call": the journal's calls. Assumes nothing.
+-- "Each is given exactly when its condition is the first to hold in the order stated for that call": book and release.
 use Prim.Native.Nat.{ℕ}
 use mathlib.Core.Path.{_≡_}
 use mathlib.Core.Bool.{not}
 use mathlib.Core.Logic.{_↔_}
 use mathlib.Core.List.{List}
-use lib.Dec.{leb, eqb}
+use lib.Dec.{eqb}
 use lib.ListN.{length}
 use Rattle.text.specs.Bytes.{within, allDigits}
 use Rattle.reasons.specs.Reasons.{refuses}
 use Rattle.reasons.proofs.Laws.{First, never, refuses-exactly}
 use Rattle.luhn.specs.Luhn.{passes}
 use Rattle.pan.specs.Pan.{panLength}
-use Rattle.slots.specs.Journal.{slotsOf, sized}
 use Rattle.slots.specs.Views.{formed, newest}
 use Rattle.slots.specs.declared.Newest.{Newest}
-use Rattle.journal.specs.Rules.{full, bookRule, releaseRule, tellRule, heldIn, showRule}
-use Rattle.journal.specs.Survey.{surveyRule}
+use Rattle.journal.specs.Rules.{full, bookRule, releaseRule}
 
 module _ (m : Newest) (j : List ℕ) (n : ℕ) where
   -- "16, 2, 3, 4 (Luhn), 17, 19 (newest is 4,294,967,295), 18 (all N slots held)"
@@ -41,18 +39,3 @@ module _ (m : Newest) (j : List ℕ) (n : ℕ) where
   pub release-refuses : (s : ℕ) → (releaseRule m j s ≡ refuses n) ↔ First (formed m) 16 n (First (within 1 (newest m) s) 20 n ⊥)
   unfolding releaseRule
   release-refuses s = refuses-exactly _ 16 _ n (refuses-exactly _ 20 _ n (never _ n))
-
-  -- "16, 20 unless held"
-  pub show-refuses : (s : ℕ) → (showRule m j s ≡ refuses n) ↔ First (formed m) 16 n (First (heldIn j (newest m) s) 20 n ⊥)
-  unfolding showRule
-  show-refuses s = refuses-exactly _ 16 _ n (refuses-exactly _ 20 _ n (never _ n))
-
-  -- tell: 16
-  pub tell-refuses : (tellRule m j ≡ refuses n) ↔ First (formed m) 16 n ⊥
-  unfolding tellRule
-  tell-refuses = refuses-exactly _ 16 _ n (never _ n)
-
-  -- the survey: 16 only for a wrong length, then 1
-  pub survey-refuses : (room : ℕ) → (surveyRule m j room ≡ refuses n) ↔ First (sized (length j)) 16 n (First (leb (slotsOf j) room) 1 n ⊥)
-  unfolding surveyRule
-  survey-refuses room = refuses-exactly _ 16 _ n (refuses-exactly _ 1 _ n (never _ n))

@@ -1,10 +1,9 @@
--- The rules of the calls, outcome by outcome. Assumes nothing.
+-- The rules of book and release, outcome by outcome.
 use Prim.Native.Nat.{ℕ, _≤_, _<_, _+_, _-_, _*_, _%_}
-use mathlib.Core.Path.{_≡_, refl, sym, ap, _∙_, subst}
+use mathlib.Core.Path.{_≡_, refl, sym, ap, _∙_}
 use mathlib.Core.Bool.{Bool, true, false}
 use mathlib.Core.List.{List}
 use native.Mathlib.Omega.{arith}
-use native.Mathlib.Nat.{mod-lt}
 use lib.ListN.{length}
 use borrow.Author.Tests.{eq-eqb, ne-eqb}
 use Rattle.reasons.specs.Reasons.{Outcome, gives, refuses, demand, after}
@@ -13,24 +12,18 @@ use Rattle.text.specs.Bytes.{within, allDigits}
 use Rattle.luhn.specs.Luhn.{passes, luhnRule}
 use Rattle.text.proofs.Tests.{under, over, inside}
 use Rattle.text.specs.Numbers.{put}
-use Rattle.slots.specs.Record.{record32, isHeld}
-use Rattle.slots.specs.Journal.{place, stateOf, Formed, NewestIs, slotsOf}
-use Rattle.text.specs.Parts.{PartOf}
-use Rattle.journal.specs.Held.{lowOf, heldAfter, heldUpTo, heldList, sumOf, firstOf, Tallies}
-use Rattle.journal.specs.Rules.{full, panRule, bookRule, bookBytes, releaseRule, releaseBytes, heldIn, showRule, freedAfter, tellRule, Shows, the-record, nothing, saidShown}
+use Rattle.slots.specs.Record.{record32}
+use Rattle.slots.specs.Journal.{place, Formed, slotsOf}
+use Rattle.held.specs.Held.{lowOf, heldAfter, heldUpTo, sumOf, Tallies}
+use Rattle.journal.specs.Rules.{full, panRule, bookRule, bookBytes, releaseRule, releaseBytes, freedAfter}
 use Rattle.pan.specs.Pan.{panLength}
-use Rattle.slots.specs.Views.{Seen}
 use Rattle.slots.specs.Writes.{wrote, recordWrites}
 use Rattle.slots.proofs.Ring.{place-in}
 use Rattle.slots.proofs.Records.{record-long}
 use Rattle.slots.proofs.Writes.{wrote-put}
 use Rattle.slots.specs.declared.Newest.{Newest}
 use Rattle.slots.specs.declared.Newest.the-variants.{Malformed, Is}
-use denote.Ref.{RefT}
-use Rattle.reasons.specs.declared.Reason.{Reason}
-use Rattle.journal.specs.declared.Tallied.{Tallied}
-use Rattle.journal.specs.declared.Shown.{Shown}
-use Rattle.journal.specs.declared.Shown.the-variants.{At, Refused}
+use Rattle.held.specs.declared.Tallied.{Tallied}
 
 -- ---- a refusal changes nothing, and a value tells what is there
 
@@ -121,29 +114,6 @@ module _ (j : List ℕ) (b s : ℕ) where
   unfolding releaseRule
   release-done l h = simp (inside 1 b s l h)
 
-  -- ---- show
-
-  pub show-none : within (lowOf j b + 1) b s ≡ false → refuses 20 ≡ showRule (Is b) j s
-  unfolding showRule heldIn
-  show-none h = simp h
-
-  pub show-free : within (lowOf j b + 1) b s ≡ true → isHeld (stateOf j (slotsOf j) s) ≡ false → refuses 20 ≡ showRule (Is b) j s
-  unfolding showRule heldIn
-  show-free h e = simp (h, e)
-
-  pub show-done : within (lowOf j b + 1) b s ≡ true → isHeld (stateOf j (slotsOf j) s) ≡ true → gives (place (slotsOf j) s) ≡ showRule (Is b) j s
-  unfolding showRule heldIn
-  show-done h e = simp (h, e)
-
--- a record that is shown lies in the journal
-pub shown-in : (j : List ℕ) (m : Newest) (s at : ℕ) → NewestIs j m → gives at ≡ showRule m j s → at + 32 ≤ length j
-unfolding showRule
-shown-in j Malformed s at i e = let z : _≡_ {A = ℕ} 0 1 = cc in absurd (omega arith)
-shown-in j (Is b) s at f e =
-    let a = passed (heldIn j b s) 20 (gives (place (slotsOf j) s)) at (sym e) in
-    let q : place (slotsOf j) s ≡ at = cc (a .1) in
-    omega (arith, f .size, f .least, mod-lt (s - 1) {m = slotsOf j} (omega (arith, f .least)))
-
 -- ---- answers with what they leave
 
 module _ (m : Newest) (j pan : List ℕ) (label amount clock : ℕ) where
@@ -174,13 +144,6 @@ release-freed j k b s low top t l h el et tally freed =
     (λ i. gives (record { count = (tally .count ∙ ap length all) i; sum = (tally .sum ∙ ap sumOf all) i })) ∙ release-done j b s l h in
     (e, freed ∙ (λ i. freedAfter j (slotsOf j) (el i) (em i)) ∙ new-after j (λ _. freedAfter j (slotsOf j) (lowOf j b) (s - lowOf j b)) e)
 
-pub tell-done : (j : List ℕ) (b low : ℕ) (t : Tallied) → low ≡ lowOf j b → Tallies t (heldAfter j (slotsOf j) low (b - low))
-    → gives (record { count = t .count; sum = t .sum; oldest = t .first; newest = b }) ≡ tellRule (Is b) j
-unfolding tellRule
-tell-done j b low t el tally =
-    let all : heldAfter j (slotsOf j) low (b - low) ≡ heldList j b = (λ i. heldAfter j (slotsOf j) (el i) (b - el i)) in
-    λ i. gives (record { count = (tally .count ∙ ap length all) i; sum = (tally .sum ∙ ap sumOf all) i; oldest = (tally .first ∙ ap firstOf all) i; newest = b })
-
 -- ---- a journal that is not well formed
 
 pub book-bad : (j pan : List ℕ) (label amount : ℕ) → refuses 16 ≡ bookRule Malformed j pan label amount
@@ -190,24 +153,3 @@ book-bad j pan label amount = refl
 pub release-bad : (j : List ℕ) (s : ℕ) → refuses 16 ≡ releaseRule Malformed j s
 unfolding releaseRule
 release-bad j s = refl
-
-pub tell-bad : (j : List ℕ) → refuses 16 ≡ tellRule Malformed j
-unfolding tellRule
-tell-bad j = refl
-
-pub show-bad : (j : List ℕ) (s : ℕ) → refuses 16 ≡ showRule Malformed j s
-unfolding showRule
-show-bad j s = refl
-
--- ---- the part that is shown
-
-pub found-in : (j : List ℕ) (s at : ℕ) (r : Shown) → Seen j (λ m. saidShown r ≡ showRule m j s) → r ≡ At at → at + 32 ≤ length j
-found-in j s at r w e = shown-in j (w .view) s at (w .is) (sym (ap saidShown e) ∙ w .so)
-
-pub shows : (j p : RefT (List ℕ)) (o : Outcome ℕ) (r : Shown) (at : ℕ) → saidShown r ≡ o → r ≡ At at → PartOf j at (at + 32 - at) p → Shows j o p
-shows j p o r at e f w =
-    let q : at + 32 - at ≡ 32 = omega arith in
-    subst (λ (o : Outcome ℕ). Shows j o p) (sym (ap saidShown f) ∙ e) (the-record (subst (λ (n : ℕ). PartOf j at n p) q w))
-
-pub shows-none : (j p : RefT (List ℕ)) (o : Outcome ℕ) (r : Shown) (x : Reason) → saidShown r ≡ o → r ≡ Refused x → PartOf j 0 0 p → Shows j o p
-shows-none j p o r x e f w = subst (λ (o : Outcome ℕ). Shows j o p) (sym (ap saidShown f) ∙ e) (nothing w)

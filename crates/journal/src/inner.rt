@@ -1,26 +1,17 @@
 // The calls on a journal whose view is already made: for the calls of this crate and for the swipe, which scans the journal once.
 use crate::Booked;
 use crate::Released;
-use crate::Shown;
-use crate::Surveyed;
-use crate::Tallied;
-use crate::Told;
 use reasons::Reason;
 use reasons::Tested;
 ghost use mathlib.Core.Path.{_≡_};
-ghost use mathlib.Core.Bool.{cond};
-ghost use mathlib.Core.List.{List, _∷_};
-ghost use Prim.Native.Nat.{ℕ, _+_, _*_, _-_, _≤_, _<_};
-ghost use lib.ListN.{length, take, drop};
+ghost use Prim.Native.Nat.{_+_, _*_, _-_, _≤_, _<_};
+ghost use lib.ListN.{length};
 ghost use Rattle.reasons.specs.Reasons.{said};
-ghost use Rattle.text.specs.Bytes.{within};
 ghost use Rattle.text.specs.Numbers.{put};
-ghost use Rattle.slots.specs.Record.{isHeld, stateAt, record32};
+ghost use Rattle.slots.specs.Record.{record32};
 ghost use Rattle.slots.specs.Journal.{slotsOf, place, Formed};
 ghost use Rattle.slots.specs.declared.Newest.the-variants.{Is};
-ghost use Rattle.journal.specs.Held.{heldAfter, Tallies};
-ghost use Rattle.journal.specs.Survey.{SlotIs, SlotsIn, SurveysAs};
-ghost use Rattle.journal.specs.Rules.{panRule, full, bookRule, bookBytes, releaseRule, releaseBytes, freedAt, freedAfter, tellRule, showRule, saidBooked, saidReleased, saidTold, saidShown};
+ghost use Rattle.journal.specs.Rules.{panRule, full, bookRule, bookBytes, releaseRule, releaseBytes, freedAt, freedAfter, saidBooked, saidReleased};
 
 // ---- book
 
@@ -82,55 +73,6 @@ pub fn book_at(j: &mut [u8], b: u32, pan: &[u8], label: u16, amount: u32, clock:
     }
 }
 
-// ---- the held records
-
-// What t's records come to with the one at `at` put before them, if that is held.
-fn with_record(t: Tallied, j: &[u8], at: usize) -> Tallied
-    requires { ⌜ (at + 32 ≤ length (now j)) × (t .count < 4096) × (t .sum ≤ 4294967295 * t .count) ⌝ }
-    ensures { λ r. ⌜ (r .count ≤ t .count + 1) × (r .sum ≤ 4294967295 * r .count) × ((rs : List (List ℕ)) → Tallies t rs → Tallies r (cond (isHeld (stateAt (now (j .entry)) at)) (take 32 (drop at (now (j .entry))) ∷ rs) rs)) ⌝ }
-{
-    if slots::is_held(j[at + 15]) {
-        let amount = text::u32_at(j, at + 8);
-        let serial = text::u32_at(j, at);
-        return Tallied {
-            count: t.count + 1,
-            sum: t.sum + amount as u64,
-            first: serial,
-        };
-    }
-    t
-}
-
-// What the held records of the serials after low up to top come to.
-pub fn tally(j: &[u8], n: usize, low: u32, top: u32) -> Tallied
-    requires { ⌜ (1 ≤ n) × (n ≤ 2048) × (length (now j) ≡ 32 * n) × (low ≤ top) × (top ≤ low + n) ⌝ }
-    ensures { λ r. ⌜ Tallies r (heldAfter (now (j .entry)) n low (top - low)) ⌝ }
-{
-    let mut t = Tallied {
-        count: 0,
-        sum: 0,
-        first: 0,
-    };
-    let mut at = slots::place_of(n, top);
-    let mut s = top;
-    while low < s {
-        t = with_record(t, j, at);
-        at = slots::back(n, at);
-        s -= 1;
-    }
-    t
-}
-
-// Whether s is one of the serials after low up to b.
-fn is_after(low: u32, b: u32, s: u32) -> bool
-    ensures { λ r. ⌜ r ≡ within (low + 1) b s ⌝ }
-{
-    if s <= low {
-        return false;
-    }
-    s <= b
-}
-
 // ---- release
 
 // Turns the state of the record at `at` into released, where it is held.
@@ -163,102 +105,13 @@ pub fn release_at(j: &mut [u8], b: u32, s: u32) -> Released
     requires { ⌜ Formed (now j) (slotsOf (now j)) b ⌝ }
     ensures { λ r. ⌜ (saidReleased r ≡ releaseRule (Is b) (now (j .entry)) s) × (now (j .exit) ≡ releaseBytes (Is b) (now (j .entry)) s) ⌝ }
 {
-    if !is_after(0, b, s) {
+    if !held::inner::is_after(0, b, s) {
         return Released::Refused(Reason::NoSerial);
     }
     let n = j.len() / 32;
     let low = slots::floor_of(n, b);
     let top = slots::higher(low, s);
-    let t = tally(j, n, low, top);
+    let t = held::inner::tally(j, n, low, top);
     free(j, n, low, top);
     Released::Those(t.count, t.sum)
-}
-
-// ---- tell
-
-// Tells of a journal with newest serial b.
-pub fn tell_at(j: &[u8], b: u32) -> Told
-    requires { ⌜ Formed (now j) (slotsOf (now j)) b ⌝ }
-    ensures { λ r. ⌜ saidTold r ≡ tellRule (Is b) (now (j .entry)) ⌝ }
-{
-    let n = j.len() / 32;
-    let low = slots::floor_of(n, b);
-    let t = tally(j, n, low, b);
-    Told::Held(t.count, t.sum, t.first, b)
-}
-
-// ---- show
-
-// Where the held record of serial s begins in a journal with newest serial b.
-pub fn find_at(j: &[u8], b: u32, s: u32) -> Shown
-    requires { ⌜ Formed (now j) (slotsOf (now j)) b ⌝ }
-    ensures { λ r. ⌜ saidShown r ≡ showRule (Is b) (now (j .entry)) s ⌝ }
-{
-    let n = j.len() / 32;
-    let low = slots::floor_of(n, b);
-    if !is_after(low, b, s) {
-        return Shown::Refused(Reason::NoSerial);
-    }
-    let at = slots::place_of(n, s);
-    if slots::is_held(j[at + 15]) {
-        return Shown::At(at);
-    }
-    Shown::Refused(Reason::NoSerial)
-}
-
-// ---- survey
-
-// What slot k says of itself. It divides by the number of slots, since a damaged record's serial may be any.
-fn slot_state(j: &[u8], n: usize, k: usize) -> u8
-    requires { ⌜ (n ≡ slotsOf (now j)) × (n ≤ 2048) × (k < n) × (length (now j) ≡ 32 * n) ⌝ }
-    ensures { λ r. ⌜ SlotIs (now (j .entry)) k r ⌝ }
-{
-    let at = 32 * k;
-    if slots::zeros(j, at, at + 32) {
-        return 0;
-    }
-    let s = text::u32_at(j, at);
-    if s == 0 {
-        return 3;
-    }
-    if slots::place_of(n, s) != at {
-        return 3;
-    }
-    if !slots::good(j, at, s) {
-        return 3;
-    }
-    if slots::is_held(j[at + 15]) {
-        return 1;
-    }
-    2
-}
-
-// Writes what each slot says of itself.
-fn fill(j: &[u8], n: usize, out: &mut [u8])
-    requires { ⌜ (n ≡ slotsOf (now j)) × (n ≤ 2048) × (n ≤ length (now out)) × (length (now j) ≡ 32 * n) ⌝ }
-    ensures { λ _. ⌜ SlotsIn (now (j .entry)) (now (out .entry)) (now (out .exit)) ⌝ }
-{
-    let mut k = 0;
-    while k < n {
-        out[k] = slot_state(j, n, k);
-        k += 1;
-    }
-}
-
-// Surveys a journal that is well formed or not, as said.
-pub fn survey_as(j: &[u8], out: &mut [u8], well: bool) -> Surveyed
-    ensures { λ r. ⌜ SurveysAs (now (j .entry)) (now (out .entry)) well r (now (out .exit)) ⌝ }
-{
-    if !slots::is_sized(j.len()) {
-        return Surveyed::Refused(Reason::BadJournal);
-    }
-    let n = j.len() / 32;
-    if out.len() < n {
-        return Surveyed::Refused(Reason::ShortOutput);
-    }
-    fill(j, n, out);
-    if well {
-        return Surveyed::Formed;
-    }
-    Surveyed::Malformed
 }

@@ -1,11 +1,10 @@
-// The journal's calls: book, release, tell, show, and survey. Each scans the journal once for its view and hands that to an inner call.
+// The calls that change a journal: book and release. Each scans the journal once for its view and hands that to an inner call.
 use reasons::Reason;
 use slots::Newest;
 
 pub mod inner;
 
-ghost use Rattle.journal.specs.Survey.{Surveys};
-ghost use Rattle.journal.specs.Rules.{Books, Releases, TellsOf, Finds, ShowsOf, NumberOfShow};
+ghost use Rattle.journal.specs.Rules.{Books, Releases};
 
 // The serial that was booked.
 pub enum Booked {
@@ -17,32 +16,6 @@ pub enum Booked {
 pub enum Released {
     Those(u32, u64),
     Refused(Reason),
-}
-
-// Count and sum of the held records, the oldest held serial and the newest serial.
-pub enum Told {
-    Held(u32, u64, u32, u32),
-    Refused(Reason),
-}
-
-// Where the record begins.
-pub enum Shown {
-    At(usize),
-    Refused(Reason),
-}
-
-// Whether the journal is well formed.
-pub enum Surveyed {
-    Formed,
-    Malformed,
-    Refused(Reason),
-}
-
-// What records come to: their count, the sum of their amounts, the serial of the first, 0 for none.
-pub struct Tallied {
-    pub count: u32,
-    pub sum: u64,
-    pub first: u32,
 }
 
 // Books a payment as the journal's next serial.
@@ -62,55 +35,5 @@ pub fn release(j: &mut [u8], s: u32) -> Released
     match slots::newest_of(j) {
         Newest::Malformed => Released::Refused(Reason::BadJournal),
         Newest::Is(b) => inner::release_at(j, b, s),
-    }
-}
-
-// Count and sum of the held records, the oldest held serial and the newest serial, 0 for none.
-pub fn tell(j: &[u8]) -> Told
-    ensures { λ r. ⌜ TellsOf (now (j .entry)) r ⌝ }
-{
-    match slots::newest_of(j) {
-        Newest::Malformed => Told::Refused(Reason::BadJournal),
-        Newest::Is(b) => inner::tell_at(j, b),
-    }
-}
-
-// Where the held record of serial s begins.
-pub fn find(j: &[u8], s: u32) -> Shown
-    ensures { λ r. ⌜ Finds (now (j .entry)) s r ⌝ }
-{
-    match slots::newest_of(j) {
-        Newest::Malformed => Shown::Refused(Reason::BadJournal),
-        Newest::Is(b) => inner::find_at(j, b, s),
-    }
-}
-
-// The held record of serial s, a part of the journal, or an empty part.
-pub fn show(j: &[u8], s: u32) -> &[u8]
-    ensures { λ r. ⌜ ShowsOf (j .entry) s r ⌝ }
-{
-    match find(j, s) {
-        Shown::At(at) => &j[at..at + 32],
-        Shown::Refused(_) => &j[..0],
-    }
-}
-
-// The number of the reason for which `show` gives an empty part, 0 where it gives a record.
-pub fn show_number(j: &[u8], s: u32) -> u32
-    ensures { λ r. ⌜ NumberOfShow (now (j .entry)) s r ⌝ }
-{
-    match find(j, s) {
-        Shown::At(_) => 0,
-        Shown::Refused(r) => reasons::number(r),
-    }
-}
-
-// For the technician who meets 16: writes one byte a slot into out, 0 free, 1 held, 2 released, 3 damaged, and answers whether the journal is well formed.
-pub fn survey(j: &[u8], out: &mut [u8]) -> Surveyed
-    ensures { λ r. ⌜ Surveys (now (j .entry)) (now (out .entry)) r (now (out .exit)) ⌝ }
-{
-    match slots::newest_of(j) {
-        Newest::Malformed => inner::survey_as(j, out, false),
-        Newest::Is(_) => inner::survey_as(j, out, true),
     }
 }

@@ -1,6 +1,6 @@
 // Held payments: show, tell, held.
-use journal::Shown;
-use journal::Told;
+use held::Shown;
+use held::Told;
 use say::fields;
 ghost use Prim.Native.Nat.{_≤_};
 ghost use lib.ListN.{length};
@@ -48,7 +48,7 @@ fn record(out: &mut [u8], bytes: &[u8]) {
 }
 
 fn show_in(out: &mut [u8], journal: &[u8], serial: u32) {
-    match journal::find(journal, serial) {
+    match held::find(journal, serial) {
         Shown::At(at) => record(out, text::piece(journal, at, 32)),
         Shown::Refused(why) => say::refused(out, why),
     }
@@ -81,7 +81,7 @@ fn told(out: &mut [u8], count: u32, sum: u64, oldest: u32, newest: u32) {
 }
 
 pub fn tell(out: &mut [u8], journal: &[u8]) {
-    match journal::tell(journal) {
+    match held::tell(journal) {
         Told::Held(count, sum, oldest, newest) => {
             told(out, count, sum, oldest, newest);
             say::value(out, b" left ", left(journal, count));
@@ -124,7 +124,7 @@ fn list(out: &mut [u8], journal: &[u8], oldest: u32) -> u64 {
 }
 
 pub fn held(out: &mut [u8], journal: &[u8]) {
-    match journal::tell(journal) {
+    match held::tell(journal) {
         Told::Held(_, _, oldest, _) => {
             let count = list(out, journal, oldest);
             say::value(out, b"done ", count);

@@ -1,6 +1,6 @@
 // What each slot of a journal says of itself.
-use journal::Surveyed;
 use reasons::Reason;
+use surveys::Surveyed;
 ghost use Prim.Native.Nat.{_≤_};
 ghost use lib.ListN.{length};
 
@@ -85,7 +85,7 @@ fn surveyed<'a>(journal: &[u8], states: &'a [u8]) -> &'a [u8]
 fn survey_in(out: &mut [u8], journal: &[u8], states: &mut [u8])
     requires { ⌜ length (now states) ≤ 2048 ⌝ }
 {
-    match journal::survey(journal, states) {
+    match surveys::survey(journal, states) {
         Surveyed::Formed => report(out, journal, surveyed(journal, states), b" well formed\n"),
         Surveyed::Malformed => report(
             out,

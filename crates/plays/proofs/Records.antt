@@ -17,13 +17,13 @@ use Rattle.slots.specs.Journal.{NewestIs, slotsOf, stateOf, place}
 use Rattle.slots.specs.Record.{isHeld}
 use Rattle.slots.specs.declared.Newest.{Newest}
 use Rattle.slots.specs.declared.Newest.the-variants.{Malformed, Is}
-use Rattle.journal.specs.Held.{recordAt, heldAfter, heldUpTo, sumOf, amountOf}
+use Rattle.held.specs.Held.{recordAt, heldAfter, heldUpTo, sumOf, amountOf}
 use Rattle.journal.specs.Rules.{Books, Releases, Tally, releaseRule}
 use Rattle.journal.specs.declared.Booked.{Booked}
 use Rattle.journal.specs.declared.Booked.the-variants as booking
 use Rattle.journal.specs.declared.Released.{Released}
 use Rattle.journal.specs.declared.Released.the-variants as releasing
-use Rattle.journal.proofs.Lists.{held-at-most}
+use Rattle.held.proofs.Lists.{held-at-most}
 use Rattle.layout.specs.declared.Track.{Track}
 use Rattle.layout.specs.declared.Track.the-variants.{Two, One}
 use Rattle.swipe.specs.Swipe.{Given, Payer, Swipes}

@@ -13,7 +13,7 @@ use Rattle.reasons.specs.Reasons.{gives, demand, numberOf}
 use Rattle.reasons.proofs.Laws.{gives-refuses, refuses-one}
 use Rattle.slots.specs.Journal.{slotsOf, sized}
 use Rattle.slots.proofs.Form.{is-sized}
-use Rattle.journal.specs.Survey.{SlotIs, free, held, released, damaged}
+use Rattle.surveys.specs.Survey.{SlotIs, free, held, released, damaged}
 use Rattle.remains.specs.Slot.{toldOf, toldAt, lookRule, saidLooked, surveyByte}
 use Rattle.remains.specs.declared.Slot.{Slot}
 use Rattle.remains.specs.Count.{countRule, saidCounted}

@@ -15,7 +15,7 @@ use Rattle.slots.specs.Record.{isHeld, isReleased, isRecord, lengthFits, kept, 
 use Rattle.slots.specs.Journal.{slotsOf, place}
 use Rattle.slots.proofs.Ranges.{differ}
 use Rattle.slots.proofs.States.{kept-fits, state-released, free-no-record}
-use Rattle.journal.specs.Survey.{Belongs}
+use Rattle.surveys.specs.Survey.{Belongs}
 use Rattle.remains.specs.Slot.{slotAt, isZero, fieldsOf, testsOf, passes, toldOf, toldAt}
 use Rattle.remains.specs.declared.Fields.{Fields}
 use Rattle.remains.specs.declared.Tests.{Tests}

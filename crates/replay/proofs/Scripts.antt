@@ -9,9 +9,8 @@ use Rattle.text.specs.Numbers.{u32At}
 use Rattle.slots.specs.Journal.{Formed, NewestIs, slotsOf, place}
 use Rattle.slots.specs.Views.{formed, newest}
 use Rattle.slots.specs.declared.Newest.the-variants.{Is}
-use Rattle.journal.specs.Held.{heldList, sumOf}
-use Rattle.journal.proofs.Lists.{held-at-most}
-use Rattle.journal.proofs.Calls.{sum-append}
+use Rattle.held.specs.Held.{heldList, sumOf}
+use Rattle.held.proofs.Lists.{held-at-most, sum-append}
 use Rattle.plays.proofs.Sums.{totals-append, bounded-none, bounded-more, sum}
 use Rattle.plays.proofs.Records.{broken, too-many, whole}
 use Rattle.history.specs.History.{Done, Run, no-more, next, recordOf, takings}

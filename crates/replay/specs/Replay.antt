@@ -6,7 +6,7 @@ use lib.ListN.{length}
 use Rattle.reasons.specs.Reasons.{Outcome, gives, refuses}
 use Rattle.slots.specs.Journal.{NewestIs}
 use Rattle.slots.specs.declared.Newest.the-variants.{Is}
-use Rattle.journal.specs.Held.{heldList, sumOf}
+use Rattle.held.specs.Held.{heldList, sumOf}
 use Rattle.history.specs.History.{Does, Done}
 use Rattle.plays.specs.Script.{clockAt, callAt, scratchLeft, TotalsOf}
 use Rattle.plays.specs.declared.Totals.{Totals}

@@ -14,7 +14,7 @@ use Rattle.slots.specs.Journal.{slotsOf, sized, place, stateOf, Formed}
 use Rattle.slots.proofs.Form.{is-sized}
 use Rattle.slots.proofs.Ring.{kept-at}
 use Rattle.slots.proofs.States.{not-both}
-use Rattle.journal.specs.Survey.{Belongs}
+use Rattle.surveys.specs.Survey.{Belongs}
 use Rattle.remains.specs.Slot.{toldAt}
 use Rattle.remains.specs.declared.Fields.{Fields}
 use Rattle.remains.specs.declared.Slot.{Slot}

@@ -16,10 +16,10 @@ use Rattle.slots.specs.declared.Newest.{Newest}
 use Rattle.slots.specs.declared.Newest.the-variants.{Malformed}
 use Rattle.slots.proofs.Form.{serial-le}
 use Rattle.slots.proofs.Views.{view-one, one-view, known}
-use Rattle.journal.specs.Held.{recordAt, heldAfter, heldList, lowOf, firstOf}
-use Rattle.journal.specs.Rules.{Shows, tellRule}
-use Rattle.journal.proofs.Lists.{held-up}
-use Rattle.journal.proofs.Laws.{record-serial, shows-one}
+use Rattle.held.specs.Held.{recordAt, heldAfter, heldList, lowOf, firstOf}
+use Rattle.held.specs.Rules.{Shows, tellRule}
+use Rattle.held.proofs.Lists.{held-up}
+use Rattle.held.proofs.Laws.{record-serial, shows-one}
 use Rattle.walker.specs.declared.Walker.{Walker}
 use Rattle.walker.specs.Walk.{heldHere, heldRule, nextOf, StartsAt, StartNumber, given, walk}
 use Rattle.walker.proofs.Held.{another, is-here, refused-here, next-last, next-held, next-not}

@@ -10,11 +10,11 @@ use Rattle.slots.specs.Journal.{slotsOf, place}
 use Rattle.slots.specs.declared.Newest.{Newest}
 use Rattle.slots.specs.declared.Newest.the-variants.{Malformed, Is}
 use Rattle.slots.proofs.Ring.{place-in}
-use Rattle.journal.specs.Held.{lowOf, heldAfter, firstOf, Tallies}
-use Rattle.journal.specs.declared.Tallied.{Tallied}
-use Rattle.journal.specs.declared.Shown.{Shown}
-use Rattle.journal.specs.Rules.{Telling, tellRule, saidShown}
-use Rattle.journal.proofs.Laws.{shown-one}
+use Rattle.held.specs.Held.{lowOf, heldAfter, firstOf, Tallies}
+use Rattle.held.specs.declared.Tallied.{Tallied}
+use Rattle.held.specs.declared.Shown.{Shown}
+use Rattle.held.specs.Rules.{Telling, tellRule, saidShown}
+use Rattle.held.proofs.Laws.{shown-one}
 use Rattle.walker.specs.Walk.{heldHere, heldRule, nextOf}
 use Rattle.walker.specs.Steps.{firstAbove, walkPlace, walkRule, startRule, stepRule}
 

@@ -10,9 +10,9 @@ use Rattle.reasons.specs.Reasons.{gives}
 use Rattle.slots.specs.Record.{isHeld}
 use Rattle.slots.specs.Journal.{slotsOf, place, stateOf, Formed}
 use Rattle.slots.specs.declared.Newest.the-variants.{Is}
-use Rattle.journal.specs.Held.{recordAt, heldAfter, heldList, lowOf, firstOf}
-use Rattle.journal.specs.Rules.{tellRule}
-use Rattle.journal.proofs.Lists.{held-up}
+use Rattle.held.specs.Held.{recordAt, heldAfter, heldList, lowOf, firstOf}
+use Rattle.held.specs.Rules.{tellRule}
+use Rattle.held.proofs.Lists.{held-up}
 use Rattle.walker.specs.Walk.{nextOf}
 use Rattle.walker.specs.Steps.{firstAbove, walkRule, startRule, stepRule, Above, above-done, above-next, Onward, onward-done, onward-next}
 use Rattle.walker.proofs.Held.{here, next-held}

@@ -7,8 +7,8 @@ use Rattle.reasons.specs.Reasons.{Outcome, gives, demand, andThen}
 use Rattle.slots.specs.Journal.{slotsOf, place}
 use Rattle.slots.specs.Views.{formed, newest}
 use Rattle.slots.specs.declared.Newest.{Newest}
-use Rattle.journal.specs.Held.{lowOf, heldAfter, firstOf}
-use Rattle.journal.specs.Rules.{tellRule}
+use Rattle.held.specs.Held.{lowOf, heldAfter, firstOf}
+use Rattle.held.specs.Rules.{tellRule}
 use Rattle.walker.specs.Walk.{heldRule, nextOf}
 
 -- ---- steps that check the journal anew

@@ -9,8 +9,8 @@ use Rattle.reasons.specs.Reasons.{Outcome, gives, demand, after, numberIn}
 use Rattle.slots.specs.Record.{isHeld, serialAt}
 use Rattle.slots.specs.Journal.{slotsOf, place, stateOf}
 use Rattle.slots.specs.Views.{Seen}
-use Rattle.journal.specs.Held.{recordAt}
-use Rattle.journal.specs.Rules.{tellRule}
+use Rattle.held.specs.Held.{recordAt}
+use Rattle.held.specs.Rules.{tellRule}
 
 -- the record of serial s stands held in its slot; any journal and any serial may be asked for, also by a walker put together by hand
 unfoldable pub heldHere : List ℕ → ℕ → Bool

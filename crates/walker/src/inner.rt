@@ -14,7 +14,7 @@ pub fn first_above(j: &[u8], b: u32, s: u32) -> u32
     }
     let n = j.len() / 32;
     let low = slots::higher(slots::floor_of(n, b), s);
-    let t = journal::inner::tally(j, n, low, b);
+    let t = held::inner::tally(j, n, low, b);
     t.first
 }
 

@@ -1,11 +1,11 @@
 // A walker holds the lent journal and its place, and gives held records, as parts of it, by rising serial, each once, then says done.
 pub mod inner;
 
-use journal::Shown;
-use journal::Told;
+use held::Shown;
+use held::Told;
 use reasons::Reason;
 ghost use mathlib.Core.Path.{_≡_};
-ghost use Rattle.journal.specs.Rules.{Shows, saidShown};
+ghost use Rattle.held.specs.Rules.{Shows, saidShown};
 ghost use Rattle.walker.specs.Walk.{heldRule, nextOf, StartsAt, StartNumber};
 
 // `next` is the serial of the record that comes next, 0 for done.
@@ -70,7 +70,7 @@ pub fn next_of(j: &[u8], s: u32) -> u32
 pub fn oldest(j: &[u8]) -> u32
     ensures { λ r. ⌜ StartsAt (now (j .entry)) r ⌝ }
 {
-    match journal::tell(j) {
+    match held::tell(j) {
         Told::Held(_, _, o, _) => o,
         Told::Refused(_) => 0,
     }
@@ -80,7 +80,7 @@ pub fn oldest(j: &[u8]) -> u32
 pub fn start_number(j: &[u8]) -> u32
     ensures { λ r. ⌜ StartNumber (now (j .entry)) r ⌝ }
 {
-    match journal::tell(j) {
+    match held::tell(j) {
         Told::Held(_, _, _, _) => 0,
         Told::Refused(r) => reasons::number(r),
     }

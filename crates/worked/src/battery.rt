@@ -1,7 +1,7 @@
 // The battery swap: forty payments in a journal of 16 slots. In the middle the clock starts at the epoch again; releases arrive late and twice;
 // the journal is full for a while. Nothing is lost.
 use crate::records;
-use journal::Told;
+use held::Told;
 use plays::Totals;
 use replay::Replayed;
 
@@ -72,7 +72,7 @@ fn outcome(out: &mut [u8; 4096], t: Totals, count: u32, sum: u64) {
 
 // The totals of a script, and what the journal holds after it.
 pub fn told(out: &mut [u8; 4096], t: Totals, journal: &[u8]) {
-    match journal::tell(journal) {
+    match held::tell(journal) {
         Told::Held(count, sum, _, _) => outcome(out, t, count, sum),
         Told::Refused(why) => say::refused(out, why),
     }

@@ -1,7 +1,7 @@
 // Lengths at their bounds that no command can lend: outputs, scratch, streams, tables, journals.
 use bits::Read;
 use checks::stripe;
-use journal::Told;
+use held::Told;
 use layout::Track;
 use ranges::Found;
 use swipe::Swiped;
@@ -140,7 +140,7 @@ fn tables(out: &mut [u8; 4096]) {
 fn tell(out: &mut [u8; 4096], journal: &[u8]) {
     say::value(out, b"tell of a journal of ", journal.len() as u64);
     say::words(out, b" bytes: ");
-    match journal::tell(journal) {
+    match held::tell(journal) {
         Told::Held(_, _, _, _) => say::words(out, b"told\n"),
         Told::Refused(why) => say::refused(out, why),
     }

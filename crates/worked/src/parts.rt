@@ -43,8 +43,8 @@ fn show(out: &mut [u8; 4096], journal: &[u8], serial: u32) {
     say::words(out, b": ");
     part(
         out,
-        journal::show_number(journal, serial),
-        journal::show(journal, serial),
+        held::show_number(journal, serial),
+        held::show(journal, serial),
     );
 }
 

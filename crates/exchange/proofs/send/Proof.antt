@@ -2,7 +2,7 @@ use Prim.Native.Nat.{ℕ, _+_, _-_, _≤_}
 use mathlib.Core.Path.{_≡_, ap}
 use native.Mathlib.Omega.{arith}
 use lib.ListN.{length, take, drop}
-use Rattle.journal.proofs.Rule.{found-in}
+use Rattle.held.proofs.Rule.{found-in}
 use Rattle.exchange.proofs.Turned.{sent-found, sent-none}
 use borrow.Author.Needs.{needs}
 use Rattle.exchange.proofs.send.Statement.{statement}

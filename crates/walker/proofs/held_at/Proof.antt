@@ -2,8 +2,8 @@ use Prim.Native.Nat.{_+_, _≤_}
 use mathlib.Core.Path.{refl, sym, ap, _∙_}
 use native.Mathlib.Omega.{arith}
 use lib.ListN.{length}
-use Rattle.journal.specs.Rules.{saidShown}
-use Rattle.journal.proofs.Rule.{shows, shows-none}
+use Rattle.held.specs.Rules.{saidShown}
+use Rattle.held.proofs.Rule.{shows, shows-none}
 use Rattle.walker.proofs.Held.{given-in}
 use borrow.Author.Needs.{needs}
 use Rattle.walker.proofs.held_at.Statement.{statement}

@@ -1,6 +1,6 @@
 use mathlib.Core.Path.{sym, ap, _∙_}
 use native.Mathlib.Omega.{arith}
-use Rattle.journal.specs.Rules.{saidShown}
+use Rattle.held.specs.Rules.{saidShown}
 use Rattle.walker.proofs.Held.{next-none, next-last, next-held, next-not, given-here, refused-here}
 use borrow.Author.Needs.{needs}
 use Rattle.walker.proofs.next_of.Statement.{statement}

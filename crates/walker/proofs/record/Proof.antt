@@ -35,7 +35,7 @@ use denote.Triple.Table.{entered, cited}
 use denote.Triple.Walked.{says, Stays, stay-none, walkOf, goes-none, Walks, ends-at, walked, walk-meets}
 use denote.Exit.{yes}
 use denote.Triple.Clauses.{ensured, lasts}
-use Rattle.journal.specs.Rules.{Shows}
+use Rattle.held.specs.Rules.{Shows}
 use Rattle.walker.specs.Walk.{heldRule}
 use Rattle.walker.specs.declared.Walker.{Walker}
 use Rattle.walker.proofs.Apart.{B, mach, v, Own, apart}

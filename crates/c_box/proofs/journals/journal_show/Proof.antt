@@ -1,8 +1,8 @@
 use mathlib.Core.Path.{sym, ap, _∙_}
 use Rattle.hands.proofs.Handed.{gave, kept}
 use native.Mathlib.Omega.{arith}
-use Rattle.journal.specs.Rules.{saidShown}
-use Rattle.journal.proofs.Rule.{found-in}
+use Rattle.held.specs.Rules.{saidShown}
+use Rattle.held.proofs.Rule.{found-in}
 use Rattle.c_box.proofs.Walked.{short}
 use borrow.Author.Needs.{needs}
 use Rattle.c_box.proofs.journals.journal_show.Statement.{statement}

@@ -1,6 +1,6 @@
 use mathlib.Core.Path.{sym, ap}
 use Rattle.hands.proofs.Handed.{gave, kept}
-use Rattle.journal.specs.Survey.{saidSurveyed}
+use Rattle.surveys.specs.Survey.{saidSurveyed}
 use borrow.Author.Needs.{needs}
 use Rattle.c_box.proofs.journals.journal_survey.Statement.{statement}
 use Rattle.c_box.proofs.journals.journal_survey.Tie as tie

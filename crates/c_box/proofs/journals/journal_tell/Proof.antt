@@ -1,6 +1,6 @@
 use mathlib.Core.Path.{sym, ap}
 use Rattle.hands.proofs.Handed.{gave, kept}
-use Rattle.journal.specs.Rules.{saidTold}
+use Rattle.held.specs.Rules.{saidTold}
 use borrow.Author.Needs.{needs}
 use Rattle.c_box.proofs.journals.journal_tell.Statement.{statement}
 use Rattle.c_box.proofs.journals.journal_tell.Tie as tie

@@ -1,6 +1,6 @@
 use mathlib.Core.Path.{sym, ap, _∙_}
 use Rattle.slots.proofs.Views.{seen-so}
-use Rattle.journal.specs.Rules.{saidTold}
+use Rattle.held.specs.Rules.{saidTold}
 use Rattle.walker.proofs.Steps.{start-told}
 use Rattle.hands.proofs.Handed.{gave, kept}
 use borrow.Author.Needs.{needs}

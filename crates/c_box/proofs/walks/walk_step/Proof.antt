@@ -1,6 +1,6 @@
 use mathlib.Core.Path.{sym, ap, _∙_}
 use native.Mathlib.Omega.{arith}
-use Rattle.journal.specs.Rules.{saidShown}
+use Rattle.held.specs.Rules.{saidShown}
 use Rattle.walker.proofs.Steps.{step-found, step-given, step-low}
 use Rattle.hands.proofs.Handed.{gave, kept}
 use borrow.Author.Needs.{needs}
