@@ -7,7 +7,7 @@ use Rattle.slots.proofs.Views.{one-view}
 use Rattle.held.proofs.Laws.{one-finding, one-telling}
 use Rattle.journal.proofs.Laws.{one-booking, one-release}
 use Rattle.surveys.proofs.Surveys.{one-survey}
-use Rattle.swipe.specs.Swipe.{Given}
+use Rattle.payer.specs.Payer.{Given}
 use Rattle.swipe.proofs.Laws as swipe
 use Rattle.ledger.proofs.Laws.{take-one}
 use Rattle.hands.proofs.Laws.{hands-one, hands-on-one, hands-on-bytes}

@@ -7,7 +7,8 @@ use Rattle.held.specs.Rules.{Finds, TellsOf, saidShown, saidTold}
 use Rattle.journal.specs.Rules.{Books, Releases, saidBooked, saidReleased}
 use Rattle.surveys.specs.Survey.{Surveys, saidSurveyed}
 use Rattle.walker.specs.Steps.{walkRule, startRule, stepRule}
-use Rattle.swipe.specs.Swipe.{Given, saidSwiped}
+use Rattle.payer.specs.Payer.{Given}
+use Rattle.swipe.specs.Swipe.{saidSwiped}
 use Rattle.swipe.specs.Swipe as swipe
 use Rattle.ledger.specs.Ledger.{Takes, saidTaken}
 use Rattle.hands.specs.Hands.{Hands, HandsOn}

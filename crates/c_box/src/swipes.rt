@@ -1,6 +1,6 @@
 use layout::Track;
 use swipe::Swiped;
-ghost use Rattle.swipe.specs.Swipe.{given};
+ghost use Rattle.payer.specs.Payer.{given};
 ghost use Rattle.c_box.specs.Calls.{Swipes};
 
 // A swipe of this track, its serial handed over.

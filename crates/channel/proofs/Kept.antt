@@ -17,7 +17,7 @@ use Rattle.journal.specs.declared.Booked.{Booked}
 use Rattle.journal.specs.declared.Booked.the-variants as booking
 use Rattle.journal.specs.declared.Released.{Released}
 use Rattle.journal.specs.declared.Released.the-variants as released
-use Rattle.swipe.specs.Swipe.{Payer, cardRule}
+use Rattle.payer.specs.Payer.{Payer, cardRule}
 use Rattle.swipe.specs.declared.Swiped.{Swiped}
 use Rattle.swipe.specs.declared.Swiped.the-variants as swiping
 use Rattle.history.specs.History.{Call, book, swipe, release, reads, aside, AnswerTo, Done, Does, Run, no-more, next, Payment, recordOf}

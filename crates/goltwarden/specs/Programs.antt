@@ -7,7 +7,8 @@ use Rattle.slots.specs.Journal.{SameButClocks}
 use Rattle.held.specs.Rules.{saidShown, saidTold}
 use Rattle.journal.specs.Rules.{saidBooked, saidReleased}
 use Rattle.surveys.specs.Survey.{saidSurveyed}
-use Rattle.swipe.specs.Swipe.{Given, saidSwiped}
+use Rattle.payer.specs.Payer.{Given}
+use Rattle.swipe.specs.Swipe.{saidSwiped}
 use Rattle.history.specs.History.{Call, book, swipe, release, reads, find, tell, survey, walkAbove, walkFirst, walkStep, AnswerTo, Done}
 use Rattle.hands.specs.Hands.{Hands}
 use Rattle.c_box.specs.Calls.{JournalBooks, JournalReleases, JournalShows, JournalTells, JournalWalks, WalkStarts, WalkSteps, JournalSurveys, Swipes}

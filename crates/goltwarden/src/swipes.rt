@@ -1,7 +1,7 @@
 // The swipes: gw_swipe, gw_swipe1.
 use layout::Track;
 ghost use Rattle.layout.specs.declared.Track.the-variants.{Two, One};
-ghost use Rattle.swipe.specs.Swipe.{given};
+ghost use Rattle.payer.specs.Payer.{given};
 ghost use Rattle.c_box.specs.Calls.{Swipes};
 
 #[no_mangle]

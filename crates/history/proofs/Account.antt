@@ -17,7 +17,7 @@ use Rattle.journal.specs.declared.Released.the-variants as releasing
 use Rattle.held.proofs.Lists.{held-at-most, held-count, sum-append}
 use Rattle.journal.proofs.Calls.{Booked-so, book-changes, book-refused, Released-so, release-changes, release-refused}
 use Rattle.reasons.specs.Reasons.{Outcome, gives}
-use Rattle.swipe.specs.Swipe.{Given, Payer, cardRule}
+use Rattle.payer.specs.Payer.{Given, Payer, cardRule}
 use Rattle.swipe.specs.declared.Swiped.{Swiped}
 use Rattle.swipe.specs.declared.Swiped.the-variants as swiping
 use Rattle.swipe.proofs.Laws.{ComesTo, refusal, one-booking, asBooked, swipe-comes-to}

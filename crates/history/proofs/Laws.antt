@@ -6,7 +6,8 @@ use lib.ListN.{replicate}
 use native.Mathlib.Omega.{arith}
 use Rattle.slots.specs.Journal.{SameButClocks}
 use Rattle.reasons.specs.Reasons.{gives}
-use Rattle.swipe.specs.Swipe.{Given, Payer, cardRule, Swipes}
+use Rattle.payer.specs.Payer.{Given, Payer, cardRule}
+use Rattle.swipe.specs.Swipe.{Swipes}
 use Rattle.swipe.specs.declared.Swiped.the-variants.{Serial}
 use Rattle.swipe.proofs.Laws.{ComesTo, refusal, one-booking, swipe-comes-to}
 use Rattle.history.specs.History.{Done, Run, Demand3, SameCalls, SameOutcomes}

@@ -14,7 +14,8 @@ use Rattle.slots.proofs.Clocks.{slot-state}
 use Rattle.slots.specs.declared.Newest.{Newest}
 use Rattle.journal.specs.Rules.{heldSlots, bookRule, bookBytes}
 use Rattle.journal.proofs.Clocks.{clock-book, clock-book-bytes}
-use Rattle.swipe.specs.Swipe.{room, Given, Payer, swipeRule, swipeAnswer, swipeBytes, Charges, Swipes}
+use Rattle.payer.specs.Payer.{room, Given, Payer}
+use Rattle.swipe.specs.Swipe.{swipeRule, swipeAnswer, swipeBytes, Charges, Swipes}
 use Rattle.swipe.specs.declared.Swiped.{Swiped}
 use Rattle.swipe.proofs.Steps.{short-scratch}
 use Rattle.swipe.proofs.Laws.{swiped-one, same-decision}

@@ -27,7 +27,8 @@ use Rattle.walker.specs.Walk.{heldRule, nextOf, StartsAt, StartNumber}
 use Rattle.walker.specs.Steps.{walkRule, startRule, stepRule}
 use Rattle.slots.specs.Views.{Seen}
 use Rattle.reasons.specs.Reasons.{Outcome, after}
-use Rattle.swipe.specs.Swipe.{Given, Payer, cardRule, Swipes}
+use Rattle.payer.specs.Payer.{Given, Payer, cardRule}
+use Rattle.swipe.specs.Swipe.{Swipes}
 use Rattle.swipe.specs.declared.Swiped.{Swiped}
 use Rattle.swipe.specs.declared.Swiped.the-variants as swiping
 

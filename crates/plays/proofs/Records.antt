@@ -26,7 +26,8 @@ use Rattle.journal.specs.declared.Released.the-variants as releasing
 use Rattle.held.proofs.Lists.{held-at-most}
 use Rattle.layout.specs.declared.Track.{Track}
 use Rattle.layout.specs.declared.Track.the-variants.{Two, One}
-use Rattle.swipe.specs.Swipe.{Given, Payer, Swipes}
+use Rattle.payer.specs.Payer.{Given, Payer}
+use Rattle.swipe.specs.Swipe.{Swipes}
 use Rattle.swipe.specs.declared.Swiped.{Swiped}
 use Rattle.swipe.specs.declared.Swiped.the-variants as swiping
 use Rattle.swipe.proofs.Laws.{ComesTo, refusal, one-booking, swipe-comes-to}

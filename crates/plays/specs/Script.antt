@@ -9,7 +9,7 @@ use Rattle.text.specs.Numbers.{u16At, u32At}
 use Rattle.reasons.specs.Reasons.{Outcome, gives, demand}
 use Rattle.layout.specs.declared.Track.{Track}
 use Rattle.layout.specs.declared.Track.the-variants.{Two, One}
-use Rattle.swipe.specs.Swipe.{given}
+use Rattle.payer.specs.Payer.{given}
 use Rattle.history.specs.History.{Call, book, swipe, release, reads, aside, AnswerTo, Does, Done}
 use Rattle.history.specs.History.{Effect, booked-one, released-to, nothing, effectOf, booked, takings, freedCount, freedSum}
 use Rattle.plays.specs.declared.Totals.{Totals}

@@ -1,4 +1,4 @@
--- The laws of the swipe. Assumes nothing.
+-- The laws of the swipe.
 use Prim.Native.Nat.{ℕ, _+_, _≤_, _<_}
 use mathlib.Core.Path.{_≡_, refl, sym, ap, _∙_, subst⁻¹}
 use mathlib.Core.List.{List}
@@ -21,13 +21,13 @@ use Rattle.journal.specs.Rules.{full, bookRule, bookBytes, saidBooked, Books}
 use Rattle.journal.specs.declared.Booked.{Booked}
 use Rattle.journal.specs.declared.Booked.the-variants as booked
 use Rattle.journal.proofs.Rule.{Fine, book-done}
-use Rattle.swipe.specs.Swipe.{room, Given, given, Payer, cardRule, boxRule, readyRule, swipeRule, swipeAnswer, swipeBytes, swipeScratch, saidSwiped, Swipes}
+use Rattle.payer.specs.Payer.{room, Given, given, Payer, cardRule}
+use Rattle.swipe.specs.Swipe.{boxRule, readyRule, swipeRule, swipeAnswer, swipeBytes, swipeScratch, saidSwiped, Swipes}
 use Rattle.layout.specs.declared.Track.{Track}
 use Rattle.layout.specs.declared.Track.the-variants.{Two, One}
 use Rattle.swipe.specs.declared.Swiped.{Swiped}
 use Rattle.swipe.specs.declared.Swiped.the-variants.{Serial, Refused}
-use Rattle.swipe.proofs.Cards.{card-pays}
-use Rattle.swipe.proofs.Steps.{Open, opened, short-scratch, kept-short}
+use Rattle.swipe.proofs.Steps.{card-fine, Open, opened, short-scratch, kept-short}
 
 -- what is said tells the answer
 pub swiped-one : (r q : Swiped) → saidSwiped r ≡ saidSwiped q → r ≡ q
@@ -85,7 +85,7 @@ is-booked m g amount space j p e =
     let t = passed-all m g amount space j p e in
     let b = t .box in
     subst⁻¹ (λ (v : Newest). bookRule v j (p .pan) (p .label) amount ≡ gives (newest v + 1)) (b .view)
-    (sym (book-done j (p .pan) (p .label) amount (t .serial) (card-pays g p (t .card)) (b .some) (b .serials) (b .slot)))
+    (sym (book-done j (p .pan) (p .label) amount (t .serial) (card-fine g p (t .card)) (b .some) (b .serials) (b .slot)))
 
 -- a swipe as an answer of the journal's
 abbrev pub asBooked : Swiped → Booked
@@ -190,5 +190,5 @@ module _ (k : Track) (site acquirer : List ℕ) (m : Newest) (amount space clock
       let left : Outcome Payer → List ℕ = λ c. after (andThen (readyRule m one amount space j) (λ _. c)) j book in
       let same : book p ≡ book q =
       ap (λ (y : ℕ). bookBytes m j (p .pan) y amount clock) x
-      ∙ booking-same m j (p .pan) (q .pan) (q .label) amount clock (card-pays one p e) (card-pays other q f) l d in
+      ∙ booking-same m j (p .pan) (q .pan) (q .label) amount clock (card-fine one p e) (card-fine other q f) l d in
       ap left e ∙ alike (readyRule m one amount space j) j book p q same ∙ sym (ap left f)

@@ -1,4 +1,3 @@
-pub mod Cards
 pub mod Steps
 pub mod Laws
 pub mod Refusals

@@ -1,4 +1,4 @@
--- The swipe's tests in their order, and the booking at their end. Assumes nothing.
+-- The swipe's tests in their order, and the booking at their end.
 use Prim.Native.Nat.{ℕ, _+_, _≤_, _<_}
 use mathlib.Core.Path.{_≡_, refl, sym, ap, _∙_}
 use mathlib.Core.Bool.{true, false, not, _&&_}
@@ -20,10 +20,15 @@ use Rattle.slots.specs.Views.{formed, newest}
 use Rattle.slots.specs.declared.Newest.{Newest}
 use Rattle.slots.specs.declared.Newest.the-variants.{Malformed, Is}
 use Rattle.journal.specs.Rules.{full}
-use Rattle.journal.proofs.Rule.{book-done, book-wrote}
-use Rattle.swipe.specs.Swipe.{room, Given, Payer, cardRule, boxRule, readyRule, swipeRule, swipeAnswer, swipeBytes, swipeScratch, Charges}
+use Rattle.journal.proofs.Rule.{Fine, book-done, book-wrote}
+use Rattle.payer.proofs.Cards.{card-pays}
+use Rattle.payer.specs.Payer.{room, Given, Payer, cardRule}
+use Rattle.swipe.specs.Swipe.{boxRule, readyRule, swipeRule, swipeAnswer, swipeBytes, swipeScratch, Charges}
 use Rattle.swipe.specs.declared.Swiped.the-variants.{Serial, Refused}
-use Rattle.swipe.proofs.Cards.{card-pays}
+
+-- the number of a card that pays may be booked
+pub card-fine : (g : Given) (p : Payer) → cardRule g ≡ gives p → Fine (p .pan)
+card-fine g p e = let c = card-pays g p e in record { count = c .count; digits = c .digits; sum = c .sum }
 
 -- ---- the box's tests, in their order
 
@@ -122,7 +127,7 @@ unfolding swipeAnswer swipeBytes
 booked g amount clock space b j p x k h r e s f =
     let o = opened (g .site) (g .acquirer) amount j (Is b) b (sym r) in
     let pays = card-next (Is b) g amount space j h b r ∙ e in
-    let d = book-done j (p .pan) (p .label) amount b (card-pays g p e) (o .some) (o .serials) (o .slot) in
+    let d = book-done j (p .pan) (p .label) amount b (card-fine g p e) (o .some) (o .serials) (o .slot) in
     let w = book-wrote (Is b) j (p .pan) (p .label) amount clock (b + 1) x k s d f in
     record { answer = w .0 ∙ rw pays; journal = w .1 ∙ rw pays }
 

@@ -1,4 +1,4 @@
-use Rattle.swipe.specs.Swipe.{given}
+use Rattle.payer.specs.Payer.{given}
 use Rattle.plays.proofs.Records.{same-swipe, stream-is, swipe-refused-came, swiped-came}
 use borrow.Author.Needs.{needs}
 use Rattle.plays.proofs.play_swipe.Statement.{statement}

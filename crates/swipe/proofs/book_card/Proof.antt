@@ -1,4 +1,4 @@
--- `book_card` asks the box and the card, and books. Assumes nothing.
+-- `book_card` asks the box and the card, and books.
 use Prim.Native.Nat.{ℕ, _+_, _-_, _≤_, _<_}
 use mathlib.Core.Path.{_≡_, refl, sym, ap, _∙_, subst, subst⁻¹}
 use mathlib.Core.List.{List}
@@ -11,10 +11,11 @@ use Rattle.slots.specs.Record.{record32}
 use Rattle.slots.specs.Journal.{slotsOf, place, NewestIs}
 use Rattle.slots.specs.declared.Newest.{Newest}
 use Rattle.slots.specs.declared.Newest.the-variants.{Is}
-use Rattle.swipe.specs.Swipe.{Given, given, Payer, partOf, boxRule, cardRule, saidBookable, saidCard, panEnd}
-use Rattle.swipe.specs.declared.Card.{Card}
-use Rattle.swipe.proofs.Cards.{part-is, card-pays}
-use Rattle.swipe.proofs.Steps.{refused, box-refused, card-next, Open, opened, booked}
+use Rattle.payer.specs.Payer.{Given, given, Payer, partOf, cardRule, saidCard, panEnd}
+use Rattle.swipe.specs.Swipe.{boxRule, saidBookable}
+use Rattle.payer.specs.declared.Card.{Card}
+use Rattle.payer.proofs.Cards.{part-is}
+use Rattle.swipe.proofs.Steps.{card-fine, refused, box-refused, card-next, Open, opened, booked}
 use borrow.Author.Needs.{needs}
 use Rattle.swipe.proofs.book_card.Statement.{statement}
 use Rattle.swipe.proofs.book_card.Tie as tie
@@ -113,7 +114,7 @@ part-write-at-end c = pan-in (c .before .before)
 write-at-requires : tie.Need-write-at-requires
 write-at-requires c κs =
     let k = c .before .before .before in
-    let w = inside-is 13 19 (length (payer k .pan)) (card-pays _ (payer k) (card-is k) .count) in
+    let w = inside-is 13 19 (length (payer k .pan)) (card-fine _ (payer k) (card-is k) .count) in
     let b = told (stripe k) in
     let pan = subst⁻¹ (λ (p : List ℕ). (13 ≤ length p) × (length p ≤ 19)) (pan-is k) (w .0, w .1) in
     (formed b, (omega (arith, passed-box b .serials, serial-fits b), pan .0, pan .1))

@@ -1,4 +1,4 @@
--- `clear` writes n zeros over the front. Assumes nothing.
+-- `clear` writes n zeros over the front.
 use Prim.Native.Nat.{ℕ, zero, suc, _+_, _≤_}
 use mathlib.Core.Path.{_≡_, refl, sym, ap, _∙_, subst⁻¹}
 use mathlib.Core.List.{List, _∷_}

@@ -1,4 +1,4 @@
--- `ready` looks at the journal once, and goes through the tests before the card in the paper's order. Assumes nothing.
+-- `ready` looks at the journal once, and goes through the tests before the card in the paper's order.
 use Prim.Native.Nat.{ℕ}
 use mathlib.Core.Path.{_≡_, sym, _∙_, subst}
 use mathlib.Core.Bool.{true, _&&_}

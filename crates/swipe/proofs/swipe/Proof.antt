@@ -1,11 +1,11 @@
--- `swipe` tests the scratch, lets it be used, and clears it. Assumes nothing.
+-- `swipe` tests the scratch, lets it be used, and clears it.
 use Prim.Native.Nat.{ℕ, _<_}
 use mathlib.Core.Path.{subst}
 use native.Mathlib.Omega.{arith}
 use lib.ListN.{length}
 use Rattle.reasons.specs.declared.Reason.the-variants.{ShortOutput}
 use Rattle.slots.specs.declared.Newest.the-variants.{Malformed}
-use Rattle.swipe.proofs.Cards.{room-small}
+use Rattle.payer.proofs.Cards.{room-small}
 use Rattle.swipe.proofs.Steps.{refused, short-scratch, kept-short, cleared}
 use borrow.Author.Needs.{needs}
 use Rattle.swipe.proofs.swipe.Statement.{statement}

@@ -1,4 +1,4 @@
--- `pan_spot` asks the track's own layout. Assumes nothing.
+-- `pan_spot` asks the track's own layout.
 use mathlib.Core.Path.{_≡_, sym, ap, _∙_}
 use Rattle.reasons.specs.Reasons.{Outcome, gives, andThen}
 use Rattle.layout.specs.Layout as layout
@@ -6,10 +6,10 @@ use Rattle.layout.specs.declared.Division as layout-answer
 use Rattle.layout.specs.declared.Track.{Track}
 use Rattle.layout1.specs.Layout1 as layout1
 use Rattle.layout1.specs.declared.Division as layout1-answer
-use Rattle.swipe.specs.Swipe.{divisionRule}
+use Rattle.payer.specs.Payer.{divisionRule}
 use borrow.Author.Needs.{needs}
-use Rattle.swipe.proofs.pan_spot.Statement.{statement}
-use Rattle.swipe.proofs.pan_spot.Tie as tie
+use Rattle.payer.proofs.pan_spot.Statement.{statement}
+use Rattle.payer.proofs.pan_spot.Tie as tie
 
 -- what each layout says of the PAN's place
 two : (c : tie.After-divide) (r : layout-answer.Division) → c .divide .result ≡ r →

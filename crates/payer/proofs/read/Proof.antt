@@ -1,12 +1,12 @@
--- `read` calls the track's own reading. Assumes nothing.
+-- `read` calls the track's own reading.
 use mathlib.Core.Path.{sym, ap, _∙_}
 use lib.ListN.{length}
 use Rattle.bits.specs.Reading.{readRule, readBytes, counted}
 use Rattle.layout.specs.declared.Track.{Track}
-use Rattle.swipe.specs.Swipe.{format}
+use Rattle.payer.specs.Payer.{format}
 use borrow.Author.Needs.{needs}
-use Rattle.swipe.proofs.read.Statement.{statement}
-use Rattle.swipe.proofs.read.Tie as tie
+use Rattle.payer.proofs.read.Statement.{statement}
+use Rattle.payer.proofs.read.Tie as tie
 
 enum-told : tie.Need-enum-told
 enum-told c = search needs

@@ -1,12 +1,12 @@
--- `card_of_chars` divides the characters and asks about their PAN. Assumes nothing.
+-- `card_of_chars` divides the characters and asks about their PAN.
 use mathlib.Core.Path.{_≡_, sym, ap, _∙_}
 use native.Mathlib.Omega.{arith}
-use Rattle.swipe.specs.Swipe.{divisionRule, saidSpot}
-use Rattle.swipe.specs.declared.Spot.{Spot}
-use Rattle.swipe.proofs.Cards.{pan-there, bad-layout, with-pan}
+use Rattle.payer.specs.Payer.{divisionRule, saidSpot}
+use Rattle.payer.specs.declared.Spot.{Spot}
+use Rattle.payer.proofs.Cards.{pan-there, bad-layout, with-pan}
 use borrow.Author.Needs.{needs}
-use Rattle.swipe.proofs.card_of_chars.Statement.{statement}
-use Rattle.swipe.proofs.card_of_chars.Tie as tie
+use Rattle.payer.proofs.card_of_chars.Statement.{statement}
+use Rattle.payer.proofs.card_of_chars.Tie as tie
 
 abbrev start : tie.After-pan-spot → tie.Start
 start c = c .before .before .before .before

@@ -1,4 +1,4 @@
--- `card_of_pan` asks Luhn, then the tables. Assumes nothing.
+-- `card_of_pan` asks Luhn, then the tables.
 use Prim.Native.Nat.{ℕ}
 use mathlib.Core.Path.{_≡_, sym, ap, _∙_}
 use mathlib.Core.List.{List}
@@ -10,11 +10,11 @@ use Rattle.ranges.specs.Inner.{saidLabel}
 use lib.ListN.{length}
 use Rattle.text.specs.Bytes.{allDigits}
 use Rattle.pan.specs.Pan.{panLength}
-use Rattle.swipe.specs.Swipe.{partOf}
-use Rattle.swipe.proofs.Cards.{part-is, luhn-refused, no-label, with-label}
+use Rattle.payer.specs.Payer.{partOf}
+use Rattle.payer.proofs.Cards.{part-is, luhn-refused, no-label, with-label}
 use borrow.Author.Needs.{needs}
-use Rattle.swipe.proofs.card_of_pan.Statement.{statement}
-use Rattle.swipe.proofs.card_of_pan.Tie as tie
+use Rattle.payer.proofs.card_of_pan.Statement.{statement}
+use Rattle.payer.proofs.card_of_pan.Tie as tie
 
 abbrev start : tie.After-test → tie.Start
 start c = c .before .before .before .before .before

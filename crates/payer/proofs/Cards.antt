@@ -1,4 +1,4 @@
--- What the stripe says of a card, step by step: the reading, the layout, Luhn and the look-up. Assumes nothing.
+-- What the stripe says of a card, step by step: the reading, the layout, Luhn and the look-up.
 use Prim.Native.Nat.{ℕ, zero, suc, _+_, _-_, _≤_}
 use mathlib.Core.Path.{_≡_, refl, sym, ap, _∙_, subst}
 use mathlib.Core.Bool.{Bool, true, false}
@@ -27,10 +27,9 @@ use Rattle.layout.specs.declared.Track.the-variants.{Two, One}
 use Rattle.layout.proofs.Laws as layout
 use Rattle.layout1.specs.Layout1.{layout1Rule}
 use Rattle.layout1.proofs.Laws as layout1
-use Rattle.journal.proofs.Rule.{Fine}
-use Rattle.swipe.specs.Swipe.{format, divisionRule, room, Given, Payer, payerRule, partOf, charsRule, cardRule, saidCard, panEnd, PanAt}
-use Rattle.swipe.specs.declared.Card.{Card}
-use Rattle.swipe.specs.declared.Card.the-variants.{Pays, Refused}
+use Rattle.payer.specs.Payer.{format, divisionRule, room, Given, Payer, payerRule, partOf, charsRule, cardRule, saidCard, panEnd, PanAt}
+use Rattle.payer.specs.declared.Card.{Card}
+use Rattle.payer.specs.declared.Card.the-variants.{Pays, Refused}
 
 pub room-small : (k : Track) → room k ≤ 76
 room-small Two = omega arith
@@ -90,6 +89,12 @@ pan-pays site acquirer pan p e =
     let c : record { pan = pan; label = b .0 } ≡ p = cc (b .2) in
     (a .0, sym (ap (λ (q : Payer). q .pan) c))
 
+-- a card number that passes
+pub record Passing (pan : List ℕ) : Type 0 where
+  pub count : panLength (length pan) ≡ true
+  pub digits : allDigits pan ≡ true
+  pub sum : passes pan ≡ true
+
 -- ---- of the characters
 
 -- where a division puts the PAN there is one
@@ -117,13 +122,13 @@ module _ (k : Track) (site acquirer chars : List ℕ) where
   unfolding charsRule
   with-pan a n e = rw e
 
-  chars-pay : (p : Payer) → charsRule k site acquirer chars ≡ gives p → Fine (p .pan)
+  chars-pay : (p : Payer) → charsRule k site acquirer chars ≡ gives p → Passing (p .pan)
   unfolding charsRule
   chars-pay p e =
       let a = went-on (divisionRule k chars) _ p e in
       let l = pan-there k chars (a .0) (a .1) in
       let b = pan-pays site acquirer (partOf chars (a .0 .start) (a .0 .size)) p (a .2) in
-      subst Fine (sym (b .1)) (record { count = l .count; digits = l .digits; sum = b .0 })
+      subst Passing (sym (b .1)) (record { count = l .count; digits = l .digits; sum = b .0 })
 
 -- ---- of the stripe
 
@@ -186,8 +191,8 @@ module _ (g : Given) (out new : List ℕ) (long : room (g .track) ≤ length out
       let b = counts.behind (readRule (format (g .track)) (g .stream) (g .bits) (length out)) w n e in
       track-so (b .track) n (sym (b .is)) (b .count)
 
--- a card that pays has a PAN that may be booked
-pub card-pays : (g : Given) (p : Payer) → cardRule g ≡ gives p → Fine (p .pan)
+-- the number of a card that pays passes
+pub card-pays : (g : Given) (p : Payer) → cardRule g ≡ gives p → Passing (p .pan)
 unfolding cardRule
 card-pays g p e =
     let a = went-on (readRule (format (g .track)) (g .stream) (g .bits) (room (g .track))) _ p e in

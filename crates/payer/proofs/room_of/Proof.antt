@@ -1,9 +1,9 @@
--- `room_of` says what the track's reading asks of its output. Assumes nothing.
+-- `room_of` says what the track's reading asks of its output.
 use mathlib.Core.Path.{sym, ap}
-use Rattle.swipe.specs.Swipe.{room}
+use Rattle.payer.specs.Payer.{room}
 use borrow.Author.Needs.{needs}
-use Rattle.swipe.proofs.room_of.Statement.{statement}
-use Rattle.swipe.proofs.room_of.Tie as tie
+use Rattle.payer.proofs.room_of.Statement.{statement}
+use Rattle.payer.proofs.room_of.Tie as tie
 
 enum-told : tie.Need-enum-told
 enum-told c = search needs

@@ -1,4 +1,4 @@
--- `card_of_stripe` reads into the scratch and goes on with what it reads, forward or reversed. Assumes nothing.
+-- `card_of_stripe` reads into the scratch and goes on with what it reads, forward or reversed.
 use Prim.Native.Nat.{ℕ}
 use mathlib.Core.Path.{_≡_, sym, ap, _∙_}
 use mathlib.Core.Bool.{Bool}
@@ -7,11 +7,11 @@ use native.Mathlib.Omega.{arith}
 use lib.Seq.{length-take-le}
 use Rattle.reasons.specs.Reasons.{gives}
 use Rattle.bits.specs.Reading.{said}
-use Rattle.swipe.specs.Swipe.{Given, given}
-use Rattle.swipe.proofs.Cards.{unread, ReadSo, read-so, read-card}
+use Rattle.payer.specs.Payer.{Given, given}
+use Rattle.payer.proofs.Cards.{unread, ReadSo, read-so, read-card}
 use borrow.Author.Needs.{needs}
-use Rattle.swipe.proofs.card_of_stripe.Statement.{statement}
-use Rattle.swipe.proofs.card_of_stripe.Tie as tie
+use Rattle.payer.proofs.card_of_stripe.Statement.{statement}
+use Rattle.payer.proofs.card_of_stripe.Tie as tie
 
 abbrev start : tie.After-read → tie.Start
 start c = c .before .before .before .before .before .before
