@@ -1,8 +1,6 @@
 // The commands that keep nothing from line to line: on texts, and looks at the journal.
-use checks::stripe;
 use checks::texts;
 use journals::memory;
-use journals::records;
 use journals::survey;
 use menu::Command;
 use menu::Looking;
@@ -25,20 +23,24 @@ fn has_gap(row: Row, line: &[u8]) -> bool {
     script::word(line, row.least - 1).len() == 0
 }
 
+fn has_count(out: &mut [u8], row: Row, n: usize) -> bool {
+    if n < row.least {
+        fields::unclear(out, b"too few words");
+        return false;
+    }
+    if row.most < n {
+        fields::unclear(out, b"too many words");
+        return false;
+    }
+    true
+}
+
 fn has_words(out: &mut [u8], row: Row, line: &[u8]) -> bool {
     if has_gap(row, line) {
         fields::unclear(out, b"an empty word (- stands for an empty text)");
         return false;
     }
-    if script::operands(line) < row.least {
-        fields::unclear(out, b"too few words");
-        return false;
-    }
-    if row.most < script::operands(line) {
-        fields::unclear(out, b"too many words");
-        return false;
-    }
-    true
+    has_count(out, row, script::operands(line))
 }
 
 pub fn is_clear(out: &mut [u8], row: Row, line: &[u8]) -> bool {
@@ -62,17 +64,20 @@ fn on_text(out: &mut [u8], c: OnText, line: &[u8]) {
     }
 }
 
-// A text in groups starts at word k. What goes beyond 64 bytes is left out: it is too long all the same.
-fn on_groups(out: &mut [u8], c: OnGroups, line: &[u8], k: usize) {
-    let mut room = [0u8; 64];
-    let n = script::solid(script::from_word(line, k), &mut room);
-    let text = script::text_of(text::piece(&room, 0, n));
+fn on_solid(out: &mut [u8], c: OnGroups, line: &[u8], text: &[u8]) {
     match c {
         OnGroups::Iban => texts::iban_test(out, text),
         OnGroups::IbanMake => texts::iban_make(out, script::text_of(script::word(line, 1)), text),
         OnGroups::Creditor => texts::creditor_test(out, text),
         OnGroups::CreditorMake => texts::creditor_make(out, text),
     }
+}
+
+// A text in groups starts at word k. What goes beyond 64 bytes is left out: it is too long all the same.
+fn on_groups(out: &mut [u8], c: OnGroups, line: &[u8], k: usize) {
+    let mut room = [0u8; 64];
+    let n = script::solid(script::from_word(line, k), &mut room);
+    on_solid(out, c, line, script::text_of(text::piece(&room, 0, n)));
 }
 
 // ---- the stripe
@@ -94,17 +99,20 @@ pub fn is_lost(out: &mut [u8], lost: bool) -> bool {
     lost
 }
 
-fn look(out: &mut [u8], c: Looking, line: &[u8], journal: &[u8], lost: bool) {
-    if is_lost(out, lost) {
-        return;
-    }
+fn look_at(out: &mut [u8], c: Looking, line: &[u8], journal: &[u8]) {
     match c {
         Looking::Dump => memory::dump(out, journal),
         Looking::Survey => survey::survey(out, journal),
         Looking::Salvage => salvaging::salvage(out, journal),
-        Looking::Show => records::show(out, line, journal),
-        Looking::Tell => records::tell(out, journal),
-        Looking::Held => records::held(out, journal),
+        Looking::Show => listings::show(out, line, journal),
+        Looking::Tell => listings::tell(out, journal),
+        Looking::Held => listings::held(out, journal),
+    }
+}
+
+fn look(out: &mut [u8], c: Looking, line: &[u8], journal: &[u8], lost: bool) {
+    if !is_lost(out, lost) {
+        look_at(out, c, line, journal);
     }
 }
 

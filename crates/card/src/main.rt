@@ -14,12 +14,12 @@ fn help() {
     let mut out = io::buffer();
     notices::help();
     menu::help(&mut out);
-    say::flush(&mut out);
+    waiting::flush(&mut out);
 }
 
 fn in_memory() {
     let mut journal = [0u8; 65537];
-    let mut st = commands::in_memory(false);
+    let mut st = keeping::in_memory(false);
     st.prompt = notices::at_terminal();
     notices::formed(b"a journal in memory", 65536, 0);
     commands::run(&mut journal, st);
@@ -28,10 +28,8 @@ fn in_memory() {
 // ---- an open file
 
 // Takes commands on the n bytes of a file.
-fn run_on(journal: &mut [u8], n: usize, fd: i32, read_only: bool)
-    requires { ⌜ (n ≤ length (now journal)) × (65536 ≤ length (now journal)) ⌝ }
-{
-    let mut st = commands::in_memory(false);
+fn run_on(journal: &mut [u8], n: usize, fd: i32, read_only: bool) {
+    let mut st = keeping::in_memory(false);
     st.length = n;
     st.filed = true;
     st.fd = fd;
@@ -42,7 +40,7 @@ fn run_on(journal: &mut [u8], n: usize, fd: i32, read_only: bool)
 
 // A well formed journal: what was read is seen on the disk before the first answer, unless it is only read.
 fn run_formed(name: &[u8], journal: &mut [u8], n: usize, fd: i32, read_only: bool, held: u32)
-    requires { ⌜ (n ≤ length (now journal)) × (65536 ≤ length (now journal)) ⌝ }
+    requires { ⌜ n ≤ length (now journal) ⌝ }
 {
     if !read_only {
         match disk::write_back(fd, &journal[0..n]) {
@@ -56,7 +54,7 @@ fn run_formed(name: &[u8], journal: &mut [u8], n: usize, fd: i32, read_only: boo
 }
 
 fn run_file(name: &[u8], journal: &mut [u8], n: usize, fd: i32, read_only: bool)
-    requires { ⌜ (n ≤ length (now journal)) × (65536 ≤ length (now journal)) ⌝ }
+    requires { ⌜ n ≤ length (now journal) ⌝ }
 {
     match held::tell(&journal[0..n]) {
         Told::Held(held, _, _, _) => run_formed(name, journal, n, fd, read_only, held),
@@ -68,7 +66,7 @@ fn run_file(name: &[u8], journal: &mut [u8], n: usize, fd: i32, read_only: bool)
 }
 
 fn run_opened(name: &[u8], journal: &mut [u8], opened: Opened, read_only: bool)
-    requires { ⌜ (opened .length ≤ length (now journal)) × (65536 ≤ length (now journal)) ⌝ }
+    requires { ⌜ opened .length ≤ length (now journal) ⌝ }
 {
     let usable = opened.usable;
     match usable {
@@ -81,17 +79,30 @@ fn run_opened(name: &[u8], journal: &mut [u8], opened: Opened, read_only: bool)
 
 // ---- which file
 
-// The journal at a path, which this process alone uses: made first, with so many bytes, or there already where they are 0.
-fn run_alone(name: &[u8], path: &[u8], bytes: usize)
+// The journal at a path, which this process alone uses: there already.
+fn run_there(name: &[u8], path: &[u8]) {
+    let mut journal = [0u8; 65537];
+    let opened = disk::open(path, &mut journal);
+    run_opened(name, &mut journal, opened, false);
+}
+
+// Made first, with so many bytes.
+fn run_made(name: &[u8], path: &[u8], bytes: usize)
     requires { ⌜ bytes ≤ 65536 ⌝ }
 {
     let mut journal = [0u8; 65537];
+    let opened = disk::make(path, &journal[0..bytes]);
+    run_opened(name, &mut journal, opened, false);
+}
+
+// The one or the other: the first where the bytes are 0.
+fn run_alone(name: &[u8], path: &[u8], bytes: usize)
+    requires { ⌜ bytes ≤ 65536 ⌝ }
+{
     if bytes == 0 {
-        let opened = disk::open(path, &mut journal);
-        run_opened(name, &mut journal, opened, false);
+        run_there(name, path);
     } else {
-        let opened = disk::make(path, &journal[0..bytes]);
-        run_opened(name, &mut journal, opened, false);
+        run_made(name, path, bytes);
     }
 }
 

@@ -1,4 +1,3 @@
-// The commands on texts, stripes and tables.
-pub mod stripe;
+// The commands on texts and tables.
 pub mod tables;
 pub mod texts;

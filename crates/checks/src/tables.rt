@@ -4,13 +4,13 @@ use say::fields;
 
 // A table's records; bytes over are told too, since a look-up refuses such a table.
 fn records(out: &mut [u8], name: &[u8], length: usize) {
-    say::value(out, name, (length / 16) as u64);
+    let numbers = [(length / 16) as u64, (length % 16) as u64];
+    say::words(out, name);
     if length % 16 == 0 {
-        say::words(out, b" records\n");
-        return;
+        say::sentence(out, b"# records\n", &numbers);
+    } else {
+        say::sentence(out, b"# records and # bytes\n", &numbers);
     }
-    say::value(out, b" records and ", (length % 16) as u64);
-    say::words(out, b" bytes\n");
 }
 
 // Takes a table from a line. The answer is how many bytes of the buffer are in use from now on: those in use before where the

@@ -9,12 +9,12 @@ mod stripe;
 mod swipes;
 mod walks;
 
-ghost use Rattle.goltwarden.specs.Version.{VersionIs};
+ghost use Rattle.version.specs.Version.{VersionIs};
 
 // The version of this interface.
 #[no_mangle]
 pub extern "C" fn gw_version() -> u32
     ensures { λ r. ⌜ VersionIs r ⌝ }
 {
-    5
+    version::number()
 }

@@ -3,16 +3,15 @@ use ledger::Ledger;
 use ledger::Taken;
 use say::fields;
 
-// A ledger with the word before its two numbers, and the word between them.
-fn told(out: &mut [u8], name: &[u8], between: &[u8], ledger: Ledger) {
-    say::value(out, name, ledger.taken as u64);
-    say::value(out, between, ledger.total);
-    say::line(out);
+// A ledger's two numbers in a sentence.
+fn told(out: &mut [u8], form: &[u8], ledger: Ledger) {
+    let numbers = [ledger.taken as u64, ledger.total];
+    say::sentence(out, form, &numbers);
 }
 
 pub fn fresh(out: &mut [u8]) -> Ledger {
     let ledger = ledger::fresh();
-    told(out, b"ledger ", b" ", ledger);
+    told(out, b"ledger # #\n", ledger);
     ledger
 }
 
@@ -20,7 +19,7 @@ pub fn fresh(out: &mut [u8]) -> Ledger {
 fn take_message(out: &mut [u8], message: &[u8], ledger: Ledger) -> Ledger {
     match ledger::take(ledger, message) {
         Taken::Now(next) => {
-            told(out, b"taken ", b" total ", next);
+            told(out, b"taken # total #\n", next);
             next
         }
         Taken::Refused(why) => {

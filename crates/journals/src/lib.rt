@@ -1,4 +1,3 @@
-// The commands that look at a journal, and those that fill one in memory.
+// The commands that look at the slots of a journal, and those that fill one in memory.
 pub mod memory;
-pub mod records;
 pub mod survey;

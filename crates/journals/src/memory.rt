@@ -14,29 +14,36 @@ fn zero(journal: &mut [u8]) {
 }
 
 fn so_many(out: &mut [u8], n: u64) {
-    say::value(out, b"slots ", n);
-    say::line(out);
+    let count = [n];
+    say::sentence(out, b"slots #\n", &count);
+}
+
+fn no_count(out: &mut [u8]) -> Filled {
+    fields::unclear(out, b"slots are 1 to 2048");
+    fields::fills_none()
+}
+
+// A journal of n empty slots, where there can be so many.
+fn empty(out: &mut [u8], n: u64, journal: &mut [u8]) -> Filled {
+    if n == 0 {
+        return no_count(out);
+    }
+    if 2048 < n {
+        return no_count(out);
+    }
+    zero(journal);
+    so_many(out, n);
+    fields::fills(32 * (n as usize))
 }
 
 // A new, empty journal: how many bytes it has.
 pub fn slots(out: &mut [u8], line: &[u8], journal: &mut [u8]) -> Filled {
     let field = fields::number(out, line, 1, 4294967295);
-    let n = field.value;
     let clear = field.clear;
     if !clear {
         return fields::fills_none();
     }
-    if n == 0 {
-        fields::unclear(out, b"slots are 1 to 2048");
-        return fields::fills_none();
-    }
-    if 2048 < n {
-        fields::unclear(out, b"slots are 1 to 2048");
-        return fields::fills_none();
-    }
-    zero(journal);
-    so_many(out, n);
-    fields::fills(32 * (n as usize))
+    empty(out, field.value, journal)
 }
 
 // A journal with the bytes of a line: how many they are. It is surveyed at once.
@@ -56,8 +63,8 @@ fn put_slot(out: &mut [u8], journal: &mut [u8], k: usize, bytes: &[u8; 32])
     requires { ⌜ (32 * k + 32 ≤ length (now journal)) × (k ≤ 4294967295) ⌝ }
 {
     text::put_at(journal, 32 * k, bytes);
-    say::value(out, b"slot ", k as u64);
-    say::line(out);
+    let number = [k as u64];
+    say::sentence(out, b"slot #\n", &number);
 }
 
 // The 32 bytes of a line into slot k.
@@ -99,8 +106,8 @@ fn used(out: &mut [u8], k: usize, bytes: &[u8]) {
     if slots::zeros(bytes, 0, bytes.len()) {
         return;
     }
-    say::value(out, b"journal ", k as u64);
-    say::words(out, b" ");
+    let number = [k as u64];
+    say::sentence(out, b"journal # ", &number);
     say::hex(out, bytes);
     say::line(out);
 }

@@ -42,8 +42,8 @@ fn damaged_slot(out: &mut [u8], journal: &[u8], k: usize, state: u8)
     if state != 3 {
         return;
     }
-    say::value(out, b"damaged ", k as u64);
-    say::words(out, b" ");
+    let number = [k as u64];
+    say::sentence(out, b"damaged # ", &number);
     say::hex(out, text::piece(journal, 32 * k, 32));
     say::line(out);
 }
@@ -58,15 +58,31 @@ fn damaged(out: &mut [u8], journal: &[u8], states: &[u8])
     }
 }
 
-fn report(out: &mut [u8], journal: &[u8], states: &[u8], form: &[u8])
+fn counts(out: &mut [u8], states: &[u8]) {
+    let numbers = [
+        how_many(states, 0) as u64,
+        how_many(states, 1) as u64,
+        how_many(states, 2) as u64,
+        how_many(states, 3) as u64,
+    ];
+    say::sentence(out, b"free # held # released # damaged #", &numbers);
+}
+
+// Ends a line with whether the journal is well formed.
+pub fn verdict(out: &mut [u8], well: bool) {
+    if well {
+        say::words(out, b" well formed\n");
+    } else {
+        say::words(out, b" not well formed\n");
+    }
+}
+
+fn report(out: &mut [u8], journal: &[u8], states: &[u8], well: bool)
     requires { ⌜ length (now states) ≤ 2048 ⌝ }
 {
     damaged(out, journal, states);
-    say::value(out, b"free ", how_many(states, 0) as u64);
-    say::value(out, b" held ", how_many(states, 1) as u64);
-    say::value(out, b" released ", how_many(states, 2) as u64);
-    say::value(out, b" damaged ", how_many(states, 3) as u64);
-    say::words(out, form);
+    counts(out, states);
+    verdict(out, well);
 }
 
 // As many states as there are slots.
@@ -86,13 +102,8 @@ fn survey_in(out: &mut [u8], journal: &[u8], states: &mut [u8])
     requires { ⌜ length (now states) ≤ 2048 ⌝ }
 {
     match surveys::survey(journal, states) {
-        Surveyed::Formed => report(out, journal, surveyed(journal, states), b" well formed\n"),
-        Surveyed::Malformed => report(
-            out,
-            journal,
-            surveyed(journal, states),
-            b" not well formed\n",
-        ),
+        Surveyed::Formed => report(out, journal, surveyed(journal, states), true),
+        Surveyed::Malformed => report(out, journal, surveyed(journal, states), false),
         Surveyed::Refused(_) => wrong_length(out, journal.len()),
     }
 }

@@ -7,44 +7,11 @@
 // more: its own line is then gone from the path, and it starts over. A holder that was killed leaves its line, which is that of a
 // process that no longer lives.
 use libc::ENOENT;
-use script::Number;
-ghost use mathlib.Core.Path.{_≡_};
-ghost use Prim.Native.Nat.{_≤_};
+use numerals::Number;
+ghost use Prim.Native.Nat.{_+_, _≤_};
 ghost use lib.ListN.{length};
-ghost use Rattle.lock.specs.Stat.{afterName, startTime};
-ghost use Rattle.lock.specs.Line.{blankLine, fits, signed, isNow};
 
-// ---- who a process is: its number, when it started, and the boot that it started in
-
-// What follows the name in a process's stat line. The name stands in parentheses and may hold any, so the last one ends it.
-fn after_name(stat: &[u8]) -> &[u8]
-    ensures { λ r. ⌜ now r ≡ afterName (now (stat .entry)) ⌝ }
-{
-    let mut at = stat.len();
-    let mut i = 0;
-    while i < stat.len() {
-        if stat[i] == 41 {
-            at = i + 1;
-        }
-        i += 1;
-    }
-    &stat[at..]
-}
-
-// When a process started, field 22 of its stat line; empty where it has ended (state Z or X, field 3).
-fn start_time(stat: &[u8]) -> &[u8]
-    ensures { λ r. ⌜ now r ≡ startTime (now (stat .entry)) ⌝ }
-{
-    let fields = after_name(stat);
-    let state = script::word(fields, 1);
-    if script::is_same(state, b"Z") {
-        return &stat[..0];
-    }
-    if script::is_same(state, b"X") {
-        return &stat[..0];
-    }
-    script::word(fields, 20)
-}
+// ---- what the system tells of a process
 
 // The bytes of a small file, into the front of a buffer: how many they are, 0 where it can't be read.
 fn read_file(path: &[u8], out: &mut [u8]) -> usize
@@ -59,18 +26,34 @@ fn read_file(path: &[u8], out: &mut [u8]) -> usize
     n
 }
 
+// Writes a part of six bytes and digits after it.
+fn put_part(path: &mut [u8], at: usize, part: &[u8; 6], digits: &[u8])
+    requires { ⌜ at + 6 + length (now digits) ≤ length (now path) ⌝ }
+{
+    text::put_at(path, at, part);
+    text::put_at(path, at + 6, digits);
+}
+
 // The path of the stat line of the process whose number these digits write: how many bytes it has.
 fn stat_path(pid: &[u8], path: &mut [u8]) -> usize
     requires { ⌜ (length (now pid) ≤ 20) × (64 ≤ length (now path)) ⌝ }
     ensures { λ r. ⌜ r ≤ length (now (path .exit)) ⌝ }
 {
     let n = pid.len();
-    text::put_at(path, 0, b"/proc/");
-    text::put_at(path, 6, pid);
-    text::put_at(path, 6 + n, b"/task/");
-    text::put_at(path, 12 + n, pid);
+    put_part(path, 0, b"/proc/", pid);
+    put_part(path, 6 + n, b"/task/", pid);
     text::put_at(path, 12 + 2 * n, b"/stat");
     17 + 2 * n
+}
+
+// The stat line of the process whose number these digits write, into the front of a buffer: how many bytes it has.
+fn read_stat(pid: &[u8], stat: &mut [u8]) -> usize
+    requires { ⌜ length (now pid) ≤ 20 ⌝ }
+    ensures { λ r. ⌜ r ≤ length (now (stat .exit)) ⌝ }
+{
+    let mut path = [0u8; 64];
+    let n = stat_path(pid, &mut path);
+    read_file(&path[0..n], stat)
 }
 
 // What the system tells of a process: so many bytes of a stat line, that there is none of that number, or nothing, as of one that ends
@@ -87,9 +70,7 @@ fn ask(pid: &[u8], stat: &mut [u8]) -> Told {
     if 20 < pid.len() {
         return Told::Nobody;
     }
-    let mut path = [0u8; 64];
-    let n = stat_path(pid, &mut path);
-    let got = read_file(&path[0..n], stat);
+    let got = read_stat(pid, stat);
     if 0 < got {
         return Told::Bytes(got);
     }
@@ -99,40 +80,27 @@ fn ask(pid: &[u8], stat: &mut [u8]) -> Told {
     Told::Nothing
 }
 
-// A line's bytes before anything is written into it: spaces, and the line feed that ends it.
-fn blank() -> [u8; 128]
-    ensures { λ r. ⌜ (r ≡ blankLine) × (128 ≡ length r) ⌝ }
+// Writes the line of the process whose number these digits write.
+fn sign_as(pid: &[u8], boot: &[u8], own: &mut [u8]) -> bool
+    requires { ⌜ 128 ≤ length (now own) ⌝ }
 {
-    let mut line = [32u8; 128];
-    line[127] = 10;
-    line
+    let mut stat = io::buffer();
+    match ask(pid, &mut stat) {
+        Told::Bytes(n) => queue::sign(pid, queue::start_time(text::piece(&stat, 0, n)), boot, own),
+        _ => false,
+    }
 }
 
-// Writes a process's line into a blank one; false where what should stand in it isn't known, or doesn't fit.
-fn sign(pid: &[u8], start: &[u8], boot: &[u8], line: &mut [u8]) -> bool
-    requires { ⌜ 128 ≤ length (now line) ⌝ }
-    ensures { λ r. ⌜ r ≡ fits (now (pid .entry)) (now (start .entry)) (now (boot .entry)) ⌝ }
-    ensures { λ _. ⌜ now (line .exit) ≡ signed (now (line .entry)) (now (pid .entry)) (now (start .entry)) (now (boot .entry)) ⌝ }
+// Asks for this process as for any other once its number is known.
+fn sign_in(boot: &[u8], own: &mut [u8]) -> bool
+    requires { ⌜ 128 ≤ length (now own) ⌝ }
 {
-    if start.len() == 0 {
-        return false;
-    }
-    if 20 < pid.len() {
-        return false;
-    }
-    if 20 < start.len() {
-        return false;
-    }
-    if 36 < boot.len() {
-        return false;
-    }
-    text::put_at(line, 0, pid);
-    text::put_at(line, 21, start);
-    text::put_at(line, 42, boot);
-    true
+    let mut stat = io::buffer();
+    let n = read_file(b"/proc/self/stat", &mut stat);
+    sign_as(script::word(text::piece(&stat, 0, n), 0), boot, own)
 }
 
-// Writes the own line, asking for this process as for any other once its number is known.
+// Writes the own line.
 fn sign_self(own: &mut [u8]) -> bool
     requires { ⌜ 128 ≤ length (now own) ⌝ }
 {
@@ -140,25 +108,7 @@ fn sign_self(own: &mut [u8]) -> bool
     if read_file(b"/proc/sys/kernel/random/boot_id", &mut boot) < 36 {
         return false;
     }
-    let mut self_stat = io::buffer();
-    let n = read_file(b"/proc/self/stat", &mut self_stat);
-    let pid = script::word(text::piece(&self_stat, 0, n), 0);
-    let mut stat = io::buffer();
-    match ask(pid, &mut stat) {
-        Told::Bytes(got) => sign(pid, start_time(text::piece(&stat, 0, got)), &boot, own),
-        _ => false,
-    }
-}
-
-// Whether a line is that of the process of this number and start time, in this boot, which the own line names.
-fn is_now(line: &[u8], own: &[u8], pid: &[u8], start: &[u8]) -> bool
-    ensures { λ r. ⌜ r ≡ isNow (now (line .entry)) (now (own .entry)) (now (pid .entry)) (now (start .entry)) ⌝ }
-{
-    let mut fresh = blank();
-    if !sign(pid, start, text::piece(own, 42, 36), &mut fresh) {
-        return false;
-    }
-    script::is_same(line, &fresh)
+    sign_in(&boot, own)
 }
 
 // Whether the process that wrote a line lives, or that isn't known.
@@ -169,14 +119,14 @@ enum Life {
 }
 
 fn lives(pid: &[u8]) -> Life {
-    match script::number_in(pid, 4294967295) {
+    match numerals::number_in(pid, 4294967295) {
         Number::Is(n) => Life::Lives(n),
         Number::Isnt(_) => Life::Ended,
     }
 }
 
 fn compare(line: &[u8], own: &[u8], pid: &[u8], stat: &[u8]) -> Life {
-    if is_now(line, own, pid, start_time(stat)) {
+    if queue::is_now(line, own, pid, queue::start_time(stat)) {
         return lives(pid);
     }
     Life::Ended
@@ -193,7 +143,7 @@ fn life_of(line: &[u8], own: &[u8]) -> Life {
     }
 }
 
-// ---- the queue
+// ---- whose turn it is
 
 // Whose turn it is: mine; that of a living process before me; to be asked again, since my line isn't there or a process before me can't
 // be told of; or the file can't be used.
@@ -310,7 +260,7 @@ fn name_of(journal: &[u8], name: &mut [u8]) -> usize
 
 // Takes the lock of the journal at a path, which leads through no link.
 pub fn take(journal: &[u8]) -> Taken {
-    let mut own = blank();
+    let mut own = queue::blank();
     if !sign_self(&mut own) {
         return Taken::Failed;
     }

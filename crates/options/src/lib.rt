@@ -1,7 +1,7 @@
 // The program's arguments: what it is asked to do. And what it says of itself and of its file.
 pub mod notices;
 
-use script::Number;
+use numerals::Number;
 ghost use Prim.Native.Nat.{_≤_};
 
 // What is asked; a journal's name by the number of its argument.
@@ -74,7 +74,7 @@ pub fn slots() -> usize
 {
     let mut argument = io::buffer();
     let n = os::arg(2, &mut argument);
-    match script::number_in(&argument[..n], 2048) {
+    match numerals::number_in(&argument[..n], 2048) {
         Number::Is(count) => count as usize,
         Number::Isnt(_) => 0,
     }

@@ -56,7 +56,7 @@ pub fn help() {
 
 pub fn version() {
     answer(b"goltwarden ");
-    io::print_decimal(STDOUT_FILENO, goltwarden::gw_version() as u64);
+    io::print_decimal(STDOUT_FILENO, version::number() as u64);
     answer(b"\n");
 }
 

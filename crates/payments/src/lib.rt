@@ -42,8 +42,8 @@ fn booked(out: &mut [u8], journal: &[u8], serial: u32, at: Place) -> bool {
     if !kept(out, journal, serial, 1, at) {
         return false;
     }
-    say::value(out, b"booked ", serial as u64);
-    say::line(out);
+    let number = [serial as u64];
+    say::sentence(out, b"booked #\n", &number);
     true
 }
 
@@ -217,9 +217,8 @@ fn released(out: &mut [u8], journal: &[u8], s: u32, count: u32, sum: u64, at: Pl
     if !kept(out, journal, first_of(s, count), count, at) {
         return false;
     }
-    say::value(out, b"released ", count as u64);
-    say::value(out, b" ", sum);
-    say::line(out);
+    let numbers = [count as u64, sum];
+    say::sentence(out, b"released # #\n", &numbers);
     true
 }
 

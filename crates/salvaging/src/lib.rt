@@ -1,6 +1,4 @@
 // The command `salvage`: a line for each slot that isn't free, one for each reason why the journal isn't well formed, and what the records come to.
-mod record;
-
 use journals::survey;
 use remains::Counted;
 use remains::Counts;
@@ -17,7 +15,7 @@ fn slot(out: &mut [u8], journal: &[u8], k: usize)
     requires { ⌜ 32 * k ≤ length (now journal) ⌝ }
 {
     match remains::look(journal, k) {
-        Looked::Says(slot) => record::told(
+        Looked::Says(slot) => slot_lines::told(
             out,
             text::piece(journal, 32 * k, 32),
             journal.len() / 32,
@@ -40,32 +38,39 @@ fn slots(out: &mut [u8], journal: &[u8]) {
 // ---- reasons
 
 fn missing(out: &mut [u8], k: usize, serial: u32) {
-    say::value(out, b"serial ", serial as u64);
-    say::value(out, b" is missing: slot ", k as u64);
-    say::words(out, b" is free\n");
+    let numbers = [serial as u64, k as u64];
+    say::sentence(out, b"serial # is missing: slot # is free\n", &numbers);
 }
 
 fn damaged(out: &mut [u8], k: usize, due: u32) {
-    say::value(out, b"slot ", k as u64);
+    let numbers = [k as u64, due as u64];
     if due == 0 {
-        say::words(out, b" is damaged\n");
+        say::sentence(out, b"slot # is damaged\n", &numbers);
     } else {
-        say::value(out, b" is damaged: serial ", due as u64);
-        say::words(out, b" belongs there\n");
+        say::sentence(
+            out,
+            b"slot # is damaged: serial # belongs there\n",
+            &numbers,
+        );
     }
 }
 
 fn disagrees(out: &mut [u8], k: usize, serial: u32, newest: u32) {
-    say::value(out, b"slot ", k as u64);
-    say::value(out, b" holds serial ", serial as u64);
-    say::value(out, b": most agree that the newest is ", newest as u64);
-    say::line(out);
+    let numbers = [k as u64, serial as u64, newest as u64];
+    say::sentence(
+        out,
+        b"slot # holds serial #: most agree that the newest is #\n",
+        &numbers,
+    );
 }
 
 fn above(out: &mut [u8], serial: u32, held: u32) {
-    say::value(out, b"serial ", serial as u64);
-    say::value(out, b" is released above serial ", held as u64);
-    say::words(out, b", which is held\n");
+    let numbers = [serial as u64, held as u64];
+    say::sentence(
+        out,
+        b"serial # is released above serial #, which is held\n",
+        &numbers,
+    );
 }
 
 // Writes why slot k keeps the journal from being well formed, and answers whether it doesn't.
@@ -105,10 +110,8 @@ fn reasons_told(out: &mut [u8], journal: &[u8], newest: u32, oldest: u32) -> boo
 // ---- the whole
 
 fn counts(out: &mut [u8], c: Counts) {
-    say::value(out, b"held ", c.held as u64);
-    say::value(out, b" sum ", c.sum);
-    say::value(out, b" released ", c.released as u64);
-    say::value(out, b" damaged ", c.damaged as u64);
+    let numbers = [c.held as u64, c.sum, c.released as u64, c.damaged as u64];
+    say::sentence(out, b"held # sum # released # damaged #", &numbers);
 }
 
 fn counted(out: &mut [u8], journal: &[u8]) {
@@ -122,11 +125,7 @@ fn whole(out: &mut [u8], journal: &[u8], newest: u32, oldest: u32) {
     slots(out, journal);
     let well = reasons_told(out, journal, newest, oldest);
     counted(out, journal);
-    if well {
-        say::words(out, b" well formed\n");
-    } else {
-        say::words(out, b" not well formed\n");
-    }
+    survey::verdict(out, well);
 }
 
 // Tells all that the bytes of a journal still say.

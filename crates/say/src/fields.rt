@@ -1,9 +1,9 @@
 // Words of a line as numbers and bytes; a word that isn't understood is answered here.
 use super::line;
 use super::words;
-use script::Bytes;
-use script::Number;
-use script::Unclear;
+use numerals::Bytes;
+use numerals::Number;
+use numerals::Unclear;
 ghost use mathlib.Core.Path.{_≡_};
 ghost use Prim.Native.Nat.{_≤_};
 ghost use lib.ListN.{length};
@@ -33,7 +33,7 @@ pub struct Field {
 pub fn number(out: &mut [u8], text: &[u8], k: usize, most: u64) -> Field
     ensures { λ r. ⌜ r .value ≤ most ⌝ }
 {
-    match script::number_in(script::word(text, k), most) {
+    match numerals::number_in(script::word(text, k), most) {
         Number::Is(value) => Field { clear: true, value },
         Number::Isnt(why) => {
             unclear_word(out, why);
@@ -73,7 +73,7 @@ pub fn fills_none() -> Filled
 pub fn bytes_of(out: &mut [u8], word: &[u8], room: &mut [u8]) -> Filled
     ensures { λ r. ⌜ r .length ≤ length (now (room .exit)) ⌝ }
 {
-    match script::bytes_in(script::text_of(word), room) {
+    match numerals::bytes_in(script::text_of(word), room) {
         Bytes::Count(length) => fills(length),
         Bytes::Isnt(why) => {
             unclear_word(out, why);

@@ -1,11 +1,9 @@
-// Lines for people: words, texts, numbers, bytes, and what an answer says. They wait in a lent buffer until they are written.
+// Lines for people: words, texts, numbers, bytes, and what an answer says. They wait in a lent buffer (`waiting`).
 pub mod fields;
-mod waiting;
 
 use reasons::Phrase;
 use reasons::Reason;
 use reasons::Tested;
-pub use waiting::flush;
 ghost use Prim.Native.Nat.{_≤_};
 ghost use lib.ListN.{length};
 
@@ -29,6 +27,29 @@ pub fn value(out: &mut [u8], name: &[u8], n: u64) {
     number(out, n);
 }
 
+// One byte of a sentence: how many numbers are written by then.
+fn put_next(out: &mut [u8], b: u8, numbers: &[u64], k: usize) -> usize {
+    if b != 35 {
+        waiting::put(out, b);
+        return k;
+    }
+    if numbers.len() <= k {
+        return k;
+    }
+    number(out, numbers[k]);
+    k + 1
+}
+
+// Words with numbers among them: each `#` stands for the next of the numbers.
+pub fn sentence(out: &mut [u8], form: &[u8], numbers: &[u64]) {
+    let mut k = 0;
+    let mut i = 0;
+    while i < form.len() {
+        k = put_next(out, form[i], numbers, k);
+        i += 1;
+    }
+}
+
 pub fn line(out: &mut [u8]) {
     words(out, b"\n");
 }
@@ -48,8 +69,13 @@ pub fn named(out: &mut [u8], name: &[u8], s: &[u8]) {
     text(out, s);
 }
 
+// So many stars, nine at most.
+pub fn stars(out: &mut [u8], n: usize) {
+    words(out, text::piece(b"*********", 0, n));
+}
+
 fn pair(out: &mut [u8], b: u8) {
-    let digits = script::hex_of(b);
+    let digits = numerals::hex_of(b);
     words(out, &digits);
 }
 

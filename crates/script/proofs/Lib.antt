@@ -1,6 +1,3 @@
 pub mod Words
 pub mod Typed
-pub mod Pairs
-pub mod Rules
-pub mod Laws
 pub mod One

@@ -1,4 +1,4 @@
--- A line as people type it: blanks at its end, a tag before it, a text in groups. Assumes nothing.
+-- A line as people type it: blanks at its end, a tag before it, a text in groups.
 use Prim.Native.Nat.{ℕ, zero, suc, _+_, _-_, _≤_, _<_}
 use mathlib.Core.Path.{_≡_, refl, sym, ap, _∙_}
 use mathlib.Core.Bool.{Bool, true, false, cond, _||_}

@@ -1,4 +1,4 @@
--- One turn and the end of each loop over a line, and where a word ends. Assumes nothing.
+-- One turn and the end of each loop over a line, and where a word ends.
 use Prim.Native.Nat.{ℕ, zero, suc, _+_, _-_, _≤_, _<_}
 use mathlib.Core.Path.{_≡_, refl, sym, ap, _∙_}
 use mathlib.Core.Bool.{Bool, true, false, cond, _&&_, _||_}

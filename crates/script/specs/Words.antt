@@ -1,4 +1,4 @@
--- The words of a line: parted by one space (byte 32). Assumes nothing.
+-- The words of a line: parted by one space (byte 32).
 use Prim.Native.Nat.{ℕ, zero, suc, _-_}
 use mathlib.Core.Bool.{Bool, true, false, cond, _&&_, _||_}
 use mathlib.Core.List.{List, [], _∷_}

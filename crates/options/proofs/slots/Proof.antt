@@ -1,6 +1,6 @@
--- `slots`: what is understood is no more than asked for. Assumes nothing.
+-- `slots`: what is understood is no more than asked for.
 use borrow.Author.Needs.{needs}
-use Rattle.script.proofs.Laws.{number-fits}
+use Rattle.numerals.proofs.Laws.{number-fits}
 use Rattle.options.proofs.slots.Statement.{statement}
 use Rattle.options.proofs.slots.Tie as tie
 

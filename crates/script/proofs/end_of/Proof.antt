@@ -1,4 +1,4 @@
--- `end_of`: what is left of the word from i on ends where the word ends. Assumes nothing.
+-- `end_of`: what is left of the word from i on ends where the word ends.
 use Prim.Native.Nat.{ℕ, _+_, _-_, _≤_}
 use borrow.Author.Needs.{needs}
 use lib.ListN.{length, drop}

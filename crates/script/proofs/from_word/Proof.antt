@@ -1,4 +1,4 @@
--- `from_word`: all that stands from its start. Assumes nothing.
+-- `from_word`: all that stands from its start.
 use Prim.Native.Nat.{_-_}
 use borrow.Author.Needs.{needs}
 use lib.ListN.{length, length-drop}

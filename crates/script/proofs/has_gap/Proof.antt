@@ -1,4 +1,4 @@
--- `has_gap`: a word of the line is empty exactly where one of the rest is. Assumes nothing.
+-- `has_gap`: a word of the line is empty exactly where one of the rest is.
 use Prim.Native.Nat.{_-_, _≤_}
 use borrow.Author.Needs.{needs}
 use lib.ListN.{length, drop}

@@ -1,4 +1,4 @@
--- `is_blank`: a space, or a carriage return. Assumes nothing.
+-- `is_blank`: a space, or a carriage return.
 use Rattle.script.proofs.Typed.{blank-space, blank-other}
 use borrow.Author.Needs.{needs}
 use Rattle.script.proofs.is_blank.Statement.{statement}

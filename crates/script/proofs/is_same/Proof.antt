@@ -1,4 +1,4 @@
--- `is_same`: the texts are the same exactly where their rests are. Assumes nothing.
+-- `is_same`: the texts are the same exactly where their rests are.
 use Prim.Native.Nat.{ℕ, _-_, _≤_}
 use borrow.Author.Needs.{needs}
 use lib.ListN.{length, drop}

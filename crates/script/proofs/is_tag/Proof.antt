@@ -1,4 +1,4 @@
--- `is_tag`: the empty word is none. Assumes nothing.
+-- `is_tag`: the empty word is none.
 use Rattle.script.proofs.Typed.{no-tag}
 use borrow.Author.Needs.{needs}
 use Rattle.script.proofs.is_tag.Statement.{statement}

@@ -1,4 +1,4 @@
--- `operands`: the spaces passed and those to come are all. Assumes nothing.
+-- `operands`: the spaces passed and those to come are all.
 use Prim.Native.Nat.{ℕ, _+_, _-_, _≤_}
 use borrow.Author.Needs.{needs}
 use lib.ListN.{length, drop}

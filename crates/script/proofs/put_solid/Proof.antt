@@ -1,4 +1,4 @@
--- `put_solid`: a space is passed over. Assumes nothing.
+-- `put_solid`: a space is passed over.
 use borrow.Author.Needs.{needs}
 use borrow.Author.Tests.{eq-eqb, ne-eqb}
 use Rattle.script.proofs.put_solid.Statement.{statement}

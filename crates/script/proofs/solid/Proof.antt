@@ -1,4 +1,4 @@
--- `solid`: what is written so far and the rest make the whole. Assumes nothing.
+-- `solid`: what is written so far and the rest make the whole.
 use Prim.Native.Nat.{_≤_, _-_}
 use Rattle.script.proofs.Typed.{Grouped, grouped-start, grouped-turn, grouped-done}
 use borrow.Author.Needs.{needs}

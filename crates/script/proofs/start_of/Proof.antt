@@ -1,4 +1,4 @@
--- `start_of`: after the words passed, the words left lead to word k. Assumes nothing.
+-- `start_of`: after the words passed, the words left lead to word k.
 use Prim.Native.Nat.{_≤_}
 use borrow.Author.Needs.{needs}
 use lib.ListN.{length, drop}

@@ -1,4 +1,4 @@
--- `text_of`: `-` alone, another byte alone, any other length. Assumes nothing.
+-- `text_of`: `-` alone, another byte alone, any other length.
 use borrow.Author.Needs.{needs}
 use mathlib.Core.Path.{sym}
 use Rattle.script.proofs.Words.{plain-dash, plain-one, plain-long}

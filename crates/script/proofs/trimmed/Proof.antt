@@ -1,4 +1,4 @@
--- `trimmed`: what is left of the front is what is left of the line. Assumes nothing.
+-- `trimmed`: what is left of the front is what is left of the line.
 use Prim.Native.Nat.{_≤_}
 use Rattle.script.proofs.Typed.{trimmed-blank, trimmed-kept, trimmed-none}
 use Rattle.script.specs.Words.{trimmed}

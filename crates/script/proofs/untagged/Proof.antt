@@ -1,4 +1,4 @@
--- `untagged`: the line after its first word, or as it is. Assumes nothing.
+-- `untagged`: the line after its first word, or as it is.
 use Rattle.script.proofs.Typed.{tagged, not-tagged}
 use borrow.Author.Needs.{needs}
 use Rattle.script.specs.Words.{isTag}

@@ -1,4 +1,4 @@
--- `word`: the part from its start to its end. Assumes nothing.
+-- `word`: the part from its start to its end.
 use Prim.Native.Nat.{ℕ, _-_}
 use borrow.Author.Needs.{needs}
 use lib.ListN.{length, take, drop}

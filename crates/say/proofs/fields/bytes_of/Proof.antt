@@ -1,5 +1,5 @@
 -- `bytes_of`: what is understood fits into the room. Assumes nothing.
-use Rattle.script.proofs.Laws.{bytes-fit}
+use Rattle.numerals.proofs.Laws.{bytes-fit}
 use borrow.Author.Needs.{needs}
 use native.Mathlib.Omega.{arith}
 use Rattle.say.proofs.fields.bytes_of.Statement.{statement}

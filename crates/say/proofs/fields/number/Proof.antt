@@ -1,5 +1,5 @@
 -- `number`: what is understood is no more than the field holds. Assumes nothing.
-use Rattle.script.proofs.Laws.{number-fits}
+use Rattle.numerals.proofs.Laws.{number-fits}
 use borrow.Author.Needs.{needs}
 use Rattle.say.proofs.fields.number.Statement.{statement}
 use Rattle.say.proofs.fields.number.Tie as tie
