@@ -1,6 +1,6 @@
 -- What a stat line says of a process, whatever its name, and what a line of the queue does.
 use Prim.Native.Nat.{ℕ, _+_, _≤_, _<_}
-use mathlib.Core.Path.{_≡_, refl, sym, ap, _∙_}
+use mathlib.Core.Path.{_≡_, refl, ap, _∙_}
 use mathlib.Core.Bool.{Bool, true, false, cond, _&&_, not}
 use mathlib.Core.List.{List, [], _∷_, _++_}
 use native.Mathlib.Omega.{arith}
@@ -11,7 +11,6 @@ use Rattle.text.specs.Bytes.{every}
 use Rattle.text.proofs.Tests.{both-true}
 use Rattle.text.specs.Numbers.{put}
 use Rattle.text.proofs.Put.{put-in, put-before, length-put}
-use Rattle.script.specs.Words.{same}
 use Rattle.script.proofs.Words.{same-is}
 use Rattle.queue.specs.Stat.{afterLast, afterName, startTime}
 use Rattle.queue.specs.Line.{blankLine, fits, lineOf, isNow}

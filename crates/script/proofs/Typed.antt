@@ -1,7 +1,7 @@
 -- A line as people type it: blanks at its end, a tag before it, a text in groups.
 use Prim.Native.Nat.{ℕ, zero, suc, _+_, _-_, _≤_, _<_}
 use mathlib.Core.Path.{_≡_, refl, sym, ap, _∙_}
-use mathlib.Core.Bool.{Bool, true, false, cond, _||_}
+use mathlib.Core.Bool.{Bool, true, false, cond}
 use mathlib.Core.List.{List, [], _∷_, _++_}
 use mathlib.Core.Logic.{_⊎_, inl, inr}
 use native.Mathlib.Omega.{arith}
@@ -12,7 +12,7 @@ use lib.ListN.{length, take, drop, getD, set, drop-of-length-le, length-drop}
 use lib.Seq.{take-all, take-suc, drop-cons, length-take-le, paste, paste-zero, paste-suc}
 use borrow.Author.Tests.{eq-eqb, ne-eqb}
 use Rattle.text.specs.Numbers.{put}
-use Rattle.script.specs.Words.{isSpace, firstWord, afterWord, afterWords, word, isBlank, leftOf, trimmed, isTag, untagged, solid}
+use Rattle.script.specs.Words.{isSpace, afterWords, word, isBlank, leftOf, trimmed, isTag, untagged, solid}
 
 -- a byte at the end: a blank is left out, and before any other byte nothing is
 left-before : (a b : ℕ) (s : List ℕ) → leftOf a (s ++ (b ∷ [])) ≡ a ∷ (s ++ (b ∷ []))

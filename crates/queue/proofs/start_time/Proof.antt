@@ -1,6 +1,6 @@
 -- `start_time`: what the state says, then field 22.
 use borrow.Author.Needs.{needs}
-use mathlib.Core.Bool.{true, false}
+use mathlib.Core.Bool.{false}
 use mathlib.Core.List.{[], _∷_}
 use mathlib.Core.Path.{_≡_, sym, ap, _∙_}
 use Rattle.script.specs.Words.{word, same}

@@ -1,6 +1,5 @@
 -- `is_blank`: a space, or a carriage return.
 use Rattle.script.proofs.Typed.{blank-space, blank-other}
-use borrow.Author.Needs.{needs}
 use Rattle.script.proofs.is_blank.Statement.{statement}
 use Rattle.script.proofs.is_blank.Tie as tie
 

@@ -4,7 +4,7 @@ use Rattle.script.proofs.Typed.{Grouped, grouped-start, grouped-turn, g
 use borrow.Author.Needs.{needs}
 use lib.ListN.{length}
 use mathlib.Core.Logic.{inl, inr}
-use mathlib.Core.Path.{_≡_, refl, sym, ap, _∙_}
+use mathlib.Core.Path.{_≡_, refl}
 use native.Mathlib.Omega.{arith}
 use Rattle.script.proofs.solid.Statement.{statement}
 use Rattle.script.proofs.solid.Tie as tie
