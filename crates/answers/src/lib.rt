@@ -60,7 +60,7 @@ fn on_text(out: &mut [u8], c: OnText, line: &[u8]) {
         OnText::Luhn => texts::luhn_test(out, text),
         OnText::LuhnMake => texts::luhn_make(out, text),
         OnText::Mask => texts::mask(out, text),
-        OnText::Layout => stripe::divide(out, text),
+        OnText::Layout => tracks::divide(out, text),
     }
 }
 
@@ -84,8 +84,8 @@ fn on_groups(out: &mut [u8], c: OnGroups, line: &[u8], k: usize) {
 
 fn on_stripe(out: &mut [u8], c: OnStripe, line: &[u8]) {
     match c {
-        OnStripe::Track(t) => stripe::track(out, t, line),
-        OnStripe::Layout1 => stripe::layout1(out, line),
+        OnStripe::Track(t) => tracks::track(out, t, line),
+        OnStripe::Layout1 => tracks::layout1(out, line),
     }
 }
 

@@ -23,14 +23,14 @@ fn clock_at(n: u8, good: bool) -> u32 {
 // Call n of the spring. No two payments have the same amount, so that one for another would show.
 fn call(script: &mut [u8; 6400], n: u8, b: u8, good: bool) {
     if b == b'p' {
-        script_records::book(script, n, 100 + 10 * (n as u32), clock_at(n, good));
+        call_records::book(script, n, 100 + 10 * (n as u32), clock_at(n, good));
         return;
     }
     if b < 64 {
-        script_records::unknown(script, n);
+        call_records::unknown(script, n);
         return;
     }
-    script_records::release(script, n, (b - 64) as u32);
+    call_records::release(script, n, (b - 64) as u32);
 }
 
 fn spring(script: &mut [u8; 6400], good: bool) {

@@ -1,4 +1,4 @@
--- What the journal's functions cite: that a view says the journal's form, and that offsets fit. Assumes nothing.
+-- What the journal's functions cite: that a view says the journal's form, and that offsets fit.
 use Prim.Native.Nat.{ℕ, _≤_}
 use mathlib.Core.Path.{_≡_, sym, _∙_, subst}
 use mathlib.Core.List.{List}

@@ -1,4 +1,4 @@
--- What each function on the journal, the swipe and the host's ledger allows, in the header's order. Assumes nothing.
+-- What each function on the journal, the swipe and the host's ledger allows, in the header's order.
 use Prim.Native.Nat.{ℕ}
 use mathlib.Core.List.{List}
 use Rattle.stream.specs.Stream.{bitN}

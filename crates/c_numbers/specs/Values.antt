@@ -1,4 +1,4 @@
--- The place of a range as C has it. Assumes nothing.
+-- The place of a range as C has it.
 use Prim.Native.Nat.{ℕ}
 use Rattle.ranges.specs.Ranges.{Place, inSite, inAcquirer}
 

@@ -1,4 +1,4 @@
--- What C gets of a reading, and of the fields of a division. Assumes nothing.
+-- What C gets of a reading, and of the fields of a division.
 use Prim.Native.Nat.{ℕ, _-_, _≤_}
 use mathlib.Core.Path.{_≡_, refl}
 use mathlib.Core.Bool.{true, false}

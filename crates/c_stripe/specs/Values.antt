@@ -1,4 +1,4 @@
--- Readings and divisions as C has them. Assumes nothing.
+-- Readings and divisions as C has them.
 use Prim.Native.Nat.{ℕ}
 use mathlib.Core.Bool.{Bool}
 use lib.ListN.{length}

@@ -1,4 +1,4 @@
-// The commands, one a line, and the answer to each.
+// Line after line: which command it is, and who answers it.
 use keeping::State;
 use lines::Source;
 use menu::Command;
@@ -10,7 +10,7 @@ ghost use lib.ListN.{length};
 // ---- a line
 
 // Answers a line whose command keeps nothing.
-fn look(out: &mut [u8], row: Row, line: &[u8], journal: &[u8], st: State) -> State {
+fn answer_only(out: &mut [u8], row: Row, line: &[u8], journal: &[u8], st: State) -> State {
     answers::answer(out, row, line, text::piece(journal, 0, st.length), st.lost);
     st
 }
@@ -34,7 +34,7 @@ fn answer(
         Command::Fill(c) => keeping::in_place(out, c, line, journal, st),
         Command::Change(c) => keeping::change(out, c, line, site, acquirer, journal, st),
         Command::Ledger(c) => keeping::on_ledger(out, c, line, st),
-        _ => look(out, row, line, journal, st),
+        _ => answer_only(out, row, line, journal, st),
     }
 }
 

@@ -1,4 +1,4 @@
--- What a creditor reference asks, as mod97's laws of a standard take it: it knows no countries. Assumes nothing.
+-- What a creditor reference asks, as mod97's laws of a standard take it: it knows no countries.
 use mathlib.Core.Bool.{true}
 use mathlib.Core.List.{List}
 use Prim.Native.Nat.{ℕ}

@@ -1,4 +1,4 @@
--- The creditor reference of document 01 (ISO 11649). Assumes nothing.
+-- The creditor reference of document 01 (ISO 11649).
 use Prim.Native.Nat.{ℕ}
 use Prim.Native.Char.{code}
 use mathlib.Core.Bool.{Bool, _&&_, _||_}

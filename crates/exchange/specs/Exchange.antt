@@ -22,7 +22,7 @@ use Rattle.exchange.specs.declared.Exchanged.the-variants.{Ran, NotWhole
 
 -- ---- the script
 
--- Records of 128 bytes, laid out as in a script of calls (`replay`). Kinds 1, 3 and 4 are calls of the box, as there. Of kind 5 the box sends the
+-- Records of 128 bytes, laid out as in a script of calls (`plays`). Kinds 1, 3 and 4 are calls of the box, as there. Of kind 5 the box sends the
 -- record of the serial that stands at 12 to 15, into the place of the air whose number stands at 16 to 19; of kind 6 what stands in that place arrives
 -- at the host; of kind 7 the answer of that serial arrives at the box. A record of another kind, a release among them, makes no call
 
@@ -138,7 +138,7 @@ pub record RunsAll (s site acquirer : List ℕ) (v : State) (r : Sums) (u k b : 
   pub runs : Runs s site acquirer v (length s / 128) done (asState u k b (r .ledger) zero-sent)
   pub totals : TotalsOf done (r .totals)
 
--- what running a script allows, by the rule of `replay` for its length; a refusal changes nothing
+-- what running a script allows, by `scriptRule` for its length; a refusal changes nothing
 pub data Exchanges (s site acquirer t j a : List ℕ) (l : Ledger) : Outcome (Unit {0}) → Exchanged → List ℕ → List ℕ → List ℕ → Type 0 where
   ran : {r : Sums} {u k b : List ℕ} → RunsAll s site acquirer (cleared t j a l) r u k b → Exchanges s site acquirer t j a l (gives tt) (Ran r) u k b
   not-whole : Exchanges s site acquirer t j a l (refuses 6) NotWhole t j a

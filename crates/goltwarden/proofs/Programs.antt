@@ -1,4 +1,4 @@
--- Demand 3 of programs in C, and their walks. Assumes nothing.
+-- Demand 3 of programs in C, and their walks.
 use Prim.Native.Nat.{ℕ, _*_, _≤_, _<_}
 use mathlib.Core.Path.{_≡_, refl, sym, ap, _∙_}
 use mathlib.Core.Bool.{Bool, true, false}

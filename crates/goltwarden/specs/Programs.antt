@@ -1,4 +1,4 @@
--- Programs in C: calls of the interface that are lent a journal, made one after another, and the calls of `history` that they are. Assumes nothing.
+-- Programs in C: calls of the interface that are lent a journal, made one after another, and the calls of `history` that they are.
 use Prim.Native.Nat.{ℕ, _<_}
 use mathlib.Core.Path.{_≡_}
 use mathlib.Core.List.{List, [], _∷_}

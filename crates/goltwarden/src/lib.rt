@@ -1,5 +1,5 @@
 // The C interface (include/goltwarden.h): each function is exported here, as one call of the crate that has its code and its promise: `c_numbers`,
-// `c_stripe` or `c_box`.
+// `c_stripe`, `c_box` or `version`.
 mod accounts;
 mod cards;
 mod digits;

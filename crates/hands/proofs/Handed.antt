@@ -1,4 +1,4 @@
--- What an outcome hands over to C: 0 and the value, or the number and nothing. Assumes nothing.
+-- What an outcome hands over to C: 0 and the value, or the number and nothing.
 use Prim.Native.Nat.{ℕ}
 use mathlib.Core.Path.{_≡_, refl, _∙_, subst}
 use Rattle.reasons.specs.Reasons.{Outcome, gives, refuses}

@@ -1,4 +1,4 @@
--- What is handed over is determined: one outcome, and one answer of the library's call, hand over one number and one value. Assumes nothing.
+-- What is handed over is determined: one outcome, and one answer of the library's call, hand over one number and one value.
 use Prim.Native.Nat.{ℕ}
 use mathlib.Core.Path.{_≡_, sym, ap, _∙_}
 use Rattle.reasons.specs.Reasons.{Outcome}

@@ -1,6 +1,6 @@
 -- What a call of the library hands over to C: a number, and what stands behind the pointers. Of each function of the C interface `Calls` says what
 -- it allows. Of its arguments come first those that come in; then x, what stood behind its pointers to numbers; r, the number answered; y, what
--- stands behind them now; and last the bytes that it may write. Assumes nothing.
+-- stands behind them now; and last the bytes that it may write.
 use Prim.Native.Nat.{ℕ}
 use mathlib.Core.Path.{_≡_}
 use Rattle.reasons.specs.Reasons.{Outcome, after, numberIn}

@@ -20,7 +20,8 @@ ghost use Rattle.held.specs.Rules.{tellRule, showRule, saidTold, saidSho
 // What t's records come to with the one at `at` put before them, if that is held.
 fn with_record(t: Tallied, j: &[u8], at: usize) -> Tallied
     requires { ⌜ (at + 32 ≤ length (now j)) × (t .count < 4096) × (t .sum ≤ 4294967295 * t .count) ⌝ }
-    ensures { λ r. ⌜ (r .count ≤ t .count + 1) × (r .sum ≤ 4294967295 * r .count) × ((rs : List (List ℕ)) → Tallies t rs → Tallies r (cond (isHeld (stateAt (now (j .entry)) at)) (take 32 (drop at (now (j .entry))) ∷ rs) rs)) ⌝ }
+    ensures { λ r. ⌜ (r .count ≤ t .count + 1) × (r .sum ≤ 4294967295 * r .count)
+        × ((rs : List (List ℕ)) → Tallies t rs → Tallies r (cond (isHeld (stateAt (now (j .entry)) at)) (take 32 (drop at (now (j .entry))) ∷ rs) rs)) ⌝ }
 {
     if slots::is_held(j[at + 15]) {
         let amount = text::u32_at(j, at + 8);

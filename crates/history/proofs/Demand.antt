@@ -1,4 +1,4 @@
--- The account read as demand 3, points 1 to 3: from an all-zero journal. Assumes nothing.
+-- The account read as demand 3, points 1 to 3: from an all-zero journal.
 use Prim.Native.Nat.{ℕ, zero, suc, max, _≤_, _<_, _+_, _-_, _*_}
 use mathlib.Core.Path.{_≡_, refl, sym, ap, _∙_, subst}
 use mathlib.Core.Bool.{Bool, true, false, cond, _&&_}

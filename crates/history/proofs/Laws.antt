@@ -1,4 +1,4 @@
--- Demand 3, proved. Assumes nothing.
+-- Demand 3, proved.
 use Prim.Native.Nat.{ℕ, _*_, _≤_}
 use mathlib.Core.Path.{_≡_}
 use mathlib.Core.List.{List, map}

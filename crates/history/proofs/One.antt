@@ -1,4 +1,4 @@
--- Each call allows one outcome, and so does each run. Assumes nothing.
+-- Each call allows one outcome, and so does each run.
 use Prim.Native.Nat.{ℕ}
 use mathlib.Core.Path.{_≡_, refl, sym, _∙_, subst, subst⁻¹}
 use mathlib.Core.List.{List, _∷_, map}

@@ -1,4 +1,4 @@
--- Calls one after another: what runs joined come to. Assumes nothing.
+-- Calls one after another: what runs joined come to.
 use Prim.Native.Nat.{ℕ, max, _+_}
 use mathlib.Core.Path.{_≡_, refl, sym, ap, _∙_}
 use mathlib.Core.List.{List, [], _∷_, _++_, append-assoc}

@@ -1,4 +1,4 @@
--- Slots of two journals that differ in clocks alone, and their surveys. Assumes nothing.
+-- Slots of two journals that differ in clocks alone, and their surveys.
 use Prim.Native.Nat.{ℕ, _≤_, _+_, _*_, _/_, _%_}
 use mathlib.Core.Path.{_≡_, refl, sym, ap, _∙_, subst}
 use mathlib.Core.Bool.{Bool, false, _&&_, and-false}

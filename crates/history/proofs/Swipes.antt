@@ -1,4 +1,4 @@
--- Swipes on two journals that differ in clocks alone. Assumes nothing.
+-- Swipes on two journals that differ in clocks alone.
 use Prim.Native.Nat.{ℕ, zero, suc, _<_, _/_}
 use mathlib.Core.Path.{_≡_, refl, sym, ap, _∙_, subst, subst⁻¹}
 use mathlib.Core.Bool.{_&&_}

@@ -1,4 +1,4 @@
--- Two runs over the same calls at any clock readings: what one call does on journals that differ in clocks alone. Assumes nothing.
+-- Two runs over the same calls at any clock readings: what one call does on journals that differ in clocks alone.
 use Prim.Native.Nat.{ℕ, zero, suc, min, max, _+_, _-_, _/_, _%_}
 use mathlib.Core.Path.{_≡_, refl, sym, ap, _∙_, subst, subst⁻¹}
 use mathlib.Core.Bool.{Bool, not, cond, _&&_}

@@ -1,4 +1,4 @@
--- Journals that differ in clocks alone have one view. Assumes nothing.
+-- Journals that differ in clocks alone have one view.
 use Prim.Native.Nat.{ℕ}
 use mathlib.Core.Path.{subst}
 use mathlib.Core.List.{List}

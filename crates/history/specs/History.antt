@@ -1,6 +1,6 @@
 -- Demand 3. Start from an all-zero journal of 1 to 2,048 slots, written only by booking, release and swipe, each lent it whole as its journal:
 -- what holds after any sequence of calls, refused ones and reading ones among them. Points 1 to 3 are `Demand3`, point 4 is `SameOutcomes`;
--- proofs/Laws.antt has the theorems `demand-3` and `clocks-decide-nothing`. Assumes nothing.
+-- proofs/Laws.antt has the theorems `demand-3` and `clocks-decide-nothing`.
 use Prim.Native.Nat.{ℕ, zero, suc, max, _+_, _≤_, _<_}
 use mathlib.Core.Path.{_≡_}
 use mathlib.Core.Bool.{true}

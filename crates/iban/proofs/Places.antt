@@ -1,4 +1,4 @@
--- A body place by place, and what an exchange does to it. Nothing here opens `kindFits`. Assumes nothing.
+-- A body place by place, and what an exchange does to it. Nothing here opens `kindFits`.
 use Prim.Native.Nat.{ℕ, zero, suc, _+_, _-_, _<_}
 use mathlib.Core.Path.{_≡_, refl, sym, ap, _∙_}
 use mathlib.Core.Bool.{true}

@@ -1,4 +1,4 @@
--- What an IBAN asks, as mod97's laws of a standard take it, and its layout as the code tests it. Assumes nothing.
+-- What an IBAN asks, as mod97's laws of a standard take it, and its layout as the code tests it.
 use Prim.Native.Nat.{ℕ, _-_}
 use mathlib.Core.Path.{_≡_, ap, _∙_}
 use mathlib.Core.Bool.{true, false, _&&_}

@@ -1,4 +1,4 @@
--- The IBAN of document 01 (ISO 13616). Assumes nothing.
+-- The IBAN of document 01 (ISO 13616).
 use Prim.Native.Nat.{ℕ}
 use mathlib.Core.Bool.{Bool, _&&_}
 use mathlib.Core.List.{List}

@@ -1,4 +1,4 @@
--- The fields one by one: what the functions find is what the definitions say. Assumes nothing.
+-- The fields one by one: what the functions find is what the definitions say.
 use Prim.Native.Nat.{ℕ, suc, _+_, _-_, _*_, _≤_, _<_}
 use mathlib.Core.Path.{_≡_, refl, sym, ap, _∙_}
 use mathlib.Core.Bool.{Bool, true, false, cond, _&&_}

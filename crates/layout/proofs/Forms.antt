@@ -1,4 +1,4 @@
--- The PAN and one field, by the definitions and by the grammar. Assumes nothing.
+-- The PAN and one field, by the definitions and by the grammar.
 use Prim.Native.Nat.{ℕ, zero, suc, suc-le-suc, _+_, _<_}
 use mathlib.Core.Path.{_≡_, refl, sym, ap, _∙_, subst}
 use mathlib.Core.Bool.{Bool, true, false, cond}

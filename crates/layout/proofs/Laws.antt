@@ -1,4 +1,4 @@
--- The laws of the layout: what is accepted has the form, what has the form is accepted, and its division is the only one. Assumes nothing.
+-- The laws of the layout: what is accepted has the form, what has the form is accepted, and its division is the only one.
 use Prim.Native.Nat.{ℕ, _+_, _≤_, _<_}
 use mathlib.Core.Path.{_≡_, refl, sym, ap, ap₂, _∙_, subst}
 use mathlib.Core.Bool.{Bool, true, false, _&&_, cond}

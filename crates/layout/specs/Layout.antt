@@ -1,4 +1,4 @@
--- The characters between the sentinels (ISO/IEC 7813), divided. Assumes nothing.
+-- The characters between the sentinels (ISO/IEC 7813), divided.
 use Prim.Native.Nat.{ℕ, suc, _+_, _-_}
 use mathlib.Core.List.{List, [], _∷_}
 use mathlib.Core.Bool.{Bool, _&&_, not, cond}

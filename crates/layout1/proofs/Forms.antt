@@ -1,4 +1,4 @@
--- What has the form is accepted, and its division is the only one. Assumes nothing.
+-- What has the form is accepted, and its division is the only one.
 use Prim.Native.Nat.{ℕ, _+_}
 use mathlib.Core.Path.{_≡_, refl, sym, ap, ap₂, _∙_}
 use mathlib.Core.List.{List, _∷_, _++_}

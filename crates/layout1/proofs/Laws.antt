@@ -1,4 +1,4 @@
--- The laws of track 1's layout. Assumes nothing.
+-- The laws of track 1's layout.
 use Prim.Native.Nat.{ℕ, suc, _+_, _≤_, _<_}
 use mathlib.Core.Path.{_≡_, sym, ap, ap₂, _∙_, subst}
 use mathlib.Core.Bool.{true, _&&_}

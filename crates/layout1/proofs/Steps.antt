@@ -1,4 +1,4 @@
--- The division of track 1's characters, test by test. Assumes nothing.
+-- The division of track 1's characters, test by test.
 use Prim.Native.Nat.{ℕ, _+_, _≤_, _<_}
 use mathlib.Core.Path.{_≡_, ap}
 use mathlib.Core.List.{List}

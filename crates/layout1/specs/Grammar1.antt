@@ -1,4 +1,4 @@
--- The form of the characters between track 1's sentinels, as a grammar: what they are put together from. Assumes nothing.
+-- The form of the characters between track 1's sentinels, as a grammar: what they are put together from.
 use Prim.Native.Nat.{ℕ, _+_}
 use mathlib.Core.Path.{_≡_}
 use mathlib.Core.List.{List, _∷_, _++_}

@@ -1,4 +1,4 @@
--- The characters between track 1's sentinels (request E1; ISO/IEC 7813), divided. Assumes nothing.
+-- The characters between track 1's sentinels (request E1; ISO/IEC 7813), divided.
 use Prim.Native.Nat.{ℕ, _+_, _-_}
 use mathlib.Core.List.{List}
 use mathlib.Core.Bool.{_&&_}

@@ -44,7 +44,7 @@ fn way(out: &mut [u8; 4096], answer: Read) {
 }
 
 fn read_into(out: &mut [u8; 4096], track: Track, stream: &[u8], bits: u64, room: &mut [u8]) {
-    let answer = stripe::read_on(track, stream, bits, room);
+    let answer = tracks::read_on(track, stream, bits, room);
     lent(out, b" bits into ", room);
     way(out, answer);
 }

@@ -1,4 +1,4 @@
--- What holds of a source of lines, its buffer and the line's. Assumes nothing.
+-- What holds of a source of lines, its buffer and the line's.
 use Prim.Native.Nat.{ℕ, _≤_}
 use mathlib.Core.List.{List}
 use lib.ListN.{length}

@@ -1,4 +1,4 @@
-// The commands that list held payments: show, tell, held.
+// The commands on held payments: one shown, what they come to, and all of them listed.
 use held::Shown;
 use held::Told;
 use say::fields;
@@ -96,14 +96,16 @@ pub fn tell(out: &mut [u8], journal: &[u8]) {
 
 // ---- held
 
-fn sale(out: &mut [u8], bytes: &[u8])
+// Its serial and amount, before the card.
+fn front(out: &mut [u8], bytes: &[u8])
     requires { ⌜ 32 ≤ length (now bytes) ⌝ }
 {
     let numbers = [text::u32_at(bytes, 0) as u64, text::u32_at(bytes, 8) as u64];
     say::sentence(out, b"# # ", &numbers);
 }
 
-fn moment(out: &mut [u8], bytes: &[u8])
+// Its clock and label, behind the card.
+fn back(out: &mut [u8], bytes: &[u8])
     requires { ⌜ 32 ≤ length (now bytes) ⌝ }
 {
     let numbers = [
@@ -120,9 +122,9 @@ fn entry(out: &mut [u8], bytes: &[u8]) -> u64
     if bytes.len() < 32 {
         return 0;
     }
-    sale(out, bytes);
+    front(out, bytes);
     masked(out, bytes);
-    moment(out, bytes);
+    back(out, bytes);
     1
 }
 

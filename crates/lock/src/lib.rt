@@ -86,7 +86,12 @@ fn sign_as(pid: &[u8], boot: &[u8], own: &mut [u8]) -> bool
 {
     let mut stat = io::buffer();
     match ask(pid, &mut stat) {
-        Told::Bytes(n) => queue::sign(pid, queue::start_time(text::piece(&stat, 0, n)), boot, own),
+        Told::Bytes(n) => lock_lines::sign(
+            pid,
+            lock_lines::start_time(text::piece(&stat, 0, n)),
+            boot,
+            own,
+        ),
         _ => false,
     }
 }
@@ -126,7 +131,7 @@ fn lives(pid: &[u8]) -> Life {
 }
 
 fn compare(line: &[u8], own: &[u8], pid: &[u8], stat: &[u8]) -> Life {
-    if queue::is_now(line, own, pid, queue::start_time(stat)) {
+    if lock_lines::is_now(line, own, pid, lock_lines::start_time(stat)) {
         return lives(pid);
     }
     Life::Ended
@@ -260,7 +265,7 @@ fn name_of(journal: &[u8], name: &mut [u8]) -> usize
 
 // Takes the lock of the journal at a path, which leads through no link.
 pub fn take(journal: &[u8]) -> Taken {
-    let mut own = queue::blank();
+    let mut own = lock_lines::blank();
     if !sign_self(&mut own) {
         return Taken::Failed;
     }

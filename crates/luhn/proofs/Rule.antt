@@ -1,4 +1,4 @@
--- The two rules, by the sum that both go on with. Assumes nothing.
+-- The two rules, by the sum that both go on with.
 use mathlib.Core.Path.{_≡_, refl, ap, _∙_}
 use mathlib.Core.Bool.{Bool, true, false}
 use mathlib.Core.List.{List}

@@ -1,4 +1,4 @@
--- The sum from the right: one turn of its loop, and the two sums that the rules ask for. Assumes nothing.
+-- The sum from the right: one turn of its loop, and the two sums that the rules ask for.
 use mathlib.Core.Path.{_≡_, refl, sym, ap, _∙_, subst}
 use mathlib.Core.Bool.{Bool, true, false, not, _&&_, and-false}
 use mathlib.Core.List.{List, [], _∷_, _++_}

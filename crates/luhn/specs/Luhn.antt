@@ -1,4 +1,4 @@
--- The Luhn rule of document 01 (ISO/IEC 7812-1, annex on the check digit). Assumes nothing.
+-- The Luhn rule of document 01 (ISO/IEC 7812-1, annex on the check digit).
 use Prim.Native.Nat.{ℕ, zero, suc, _+_, _-_, _*_, _%_}
 use mathlib.Core.Bool.{Bool, true, false, not, cond}
 use mathlib.Core.List.{List, [], _∷_, _++_}

@@ -1,4 +1,4 @@
--- What `sum` gives: a text's sum from the right, whose last digit is doubled or not. Assumes nothing.
+-- What `sum` gives: a text's sum from the right, whose last digit is doubled or not.
 use Prim.Native.Nat.{ℕ, zero, suc, _+_, _-_}
 use mathlib.Core.Bool.{Bool, not}
 use mathlib.Core.List.{List, [], _∷_}

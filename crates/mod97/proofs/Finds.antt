@@ -1,5 +1,5 @@
 -- What a remainder finds: a changed character, two exchanged ones, two neighbours of one digit and of two. Over the characters' numbers.
--- Assumes nothing.
+--
 use Prim.Native.Nat.{ℕ, zero, suc, _+_, _*_, _-_, _%_, _^_, _<_, _≤_}
 use mathlib.Core.Path.{_≡_, refl, sym, ap, _∙_}
 use mathlib.Core.Bool.{Bool, true, false, cond}

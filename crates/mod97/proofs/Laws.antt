@@ -1,4 +1,4 @@
--- The number that a text writes, character by character, and its remainder modulo 97. Assumes nothing.
+-- The number that a text writes, character by character, and its remainder modulo 97.
 use Prim.Native.Nat.{ℕ, suc, _+_, _*_, _-_, _%_, _/_, _<_, _≤_}
 use mathlib.Core.Path.{_≡_, refl, sym, ap, _∙_}
 use mathlib.Core.Bool.{Bool, true, false, cond}

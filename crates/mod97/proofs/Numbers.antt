@@ -1,4 +1,4 @@
--- Digits and capitals by their numbers: all that is used of the kinds. Assumes nothing.
+-- Digits and capitals by their numbers: all that is used of the kinds.
 use Prim.Native.Nat.{ℕ, _+_, _*_, _-_, _<_, _≤_}
 use mathlib.Core.Path.{_≡_, refl}
 use mathlib.Core.Logic.{_⊎_, inl, inr}

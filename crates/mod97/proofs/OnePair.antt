@@ -1,4 +1,4 @@
--- For any two letters and any body exactly one pair from 02 to 98 leaves 1: 98 less the remainder with 00. Assumes nothing.
+-- For any two letters and any body exactly one pair from 02 to 98 leaves 1: 98 less the remainder with 00.
 use Prim.Native.Nat.{ℕ, _+_, _*_, _-_, _%_, _/_, _<_, _≤_}
 use mathlib.Core.Path.{_≡_, refl, sym, ap, _∙_}
 use mathlib.Core.List.{List, [], _∷_, _++_, append-assoc}

@@ -1,4 +1,4 @@
--- The laws of the check pair over texts whose pair passes: what creditor references and IBANs share. Assumes nothing.
+-- The laws of the check pair over texts whose pair passes: what creditor references and IBANs share.
 use Prim.Native.Nat.{ℕ, suc, _+_, _*_, _%_, _/_, _<_, _≤_}
 use mathlib.Core.Path.{_≡_, refl, sym, ap, _∙_}
 use mathlib.Core.Bool.{true}

@@ -1,4 +1,4 @@
--- What a change or an exchange of characters at places of a text does to what the moved text leaves. Assumes nothing.
+-- What a change or an exchange of characters at places of a text does to what the moved text leaves.
 use Prim.Native.Nat.{ℕ, zero, suc, _+_, _*_, _-_, _%_, _<_, _≤_}
 use mathlib.Core.Path.{_≡_, refl, sym, ap, _∙_}
 use mathlib.Core.List.{List, [], _∷_, _++_}

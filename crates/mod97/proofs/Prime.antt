@@ -1,5 +1,5 @@
 -- Two facts of 97, each by a test that antt computes: every number from 1 to 96 has an inverse, and 10 has order 96.
--- Assumes nothing.
+--
 use Prim.Native.Nat.{ℕ, suc, _*_, _%_, _^_, _<_}
 use mathlib.Core.Path.{_≡_}
 use mathlib.Core.Bool.{Bool, not}

@@ -1,4 +1,4 @@
--- The laws on refusals, over any rule that accepts only texts of 4 to 47 characters whose pair passes. Assumes nothing.
+-- The laws on refusals, over any rule that accepts only texts of 4 to 47 characters whose pair passes.
 use Prim.Native.Nat.{ℕ, _<_, _≤_}
 use mathlib.Core.Path.{_≡_, sym, _∙_}
 use mathlib.Core.Bool.{true}

@@ -1,5 +1,5 @@
 -- The laws of a standard with a check pair, over any that asks in the order of both: count (2), bytes (3), country (5), layout (6),
--- pair (4). Assumes nothing.
+-- pair (4).
 use Prim.Native.Nat.{ℕ, suc, _+_, _%_, _/_, _<_, _≤_}
 use mathlib.Core.Path.{_≡_, sym, ap, _∙_}
 use mathlib.Core.Bool.{Bool, true, false}

@@ -1,4 +1,4 @@
--- The kinds of characters that the laws on changes and exchanges speak of. Assumes nothing.
+-- The kinds of characters that the laws on changes and exchanges speak of.
 use Prim.Native.Nat.{ℕ}
 use Prim.Native.Char.{code}
 use mathlib.Core.Path.{_≡_}

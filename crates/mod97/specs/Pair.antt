@@ -1,4 +1,4 @@
--- The check pair at places 3 and 4 of a text (ISO 7064, MOD 97-10): when it passes, and how it is made. Assumes nothing.
+-- The check pair at places 3 and 4 of a text (ISO 7064, MOD 97-10): when it passes, and how it is made.
 use Prim.Native.Nat.{ℕ, _+_, _*_, _-_, _%_, _/_}
 use mathlib.Core.Bool.{Bool, _&&_}
 use mathlib.Core.List.{List, [], _∷_, _++_}

@@ -1,4 +1,4 @@
--- The number that a text writes (ISO 7064, MOD 97-10). Assumes nothing.
+-- The number that a text writes (ISO 7064, MOD 97-10).
 use Prim.Native.Nat.{ℕ, _+_, _-_, _/_, _%_}
 use mathlib.Core.Bool.{cond}
 use mathlib.Core.List.{List, [], _∷_, _++_}

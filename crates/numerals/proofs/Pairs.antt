@@ -24,7 +24,8 @@ decimal-more [] v = omega arith
 decimal-more (b ∷ s) v = let h : 10 * v + (b - 48) ≤ decimalAfter (10 * v + (b - 48)) s = decimal-more s (10 * v + (b - 48)) in omega arith
 
 -- one digit more
-pub decimal-step : (s : List ℕ) (v i d x : ℕ) → i < length s → decimalAfter v (drop i s) ≡ x → d ≡ getD s i 0 - 48 → decimalAfter (10 * v + d) (drop (i + 1) s) ≡ x
+pub decimal-step : (s : List ℕ) (v i d x : ℕ) → i < length s → decimalAfter v (drop i s) ≡ x → d ≡ getD s i 0 - 48
+    → decimalAfter (10 * v + d) (drop (i + 1) s) ≡ x
 decimal-step s v i d x h e f = (λ j. decimalAfter (10 * v + f j) (drop (add-one i j) s)) ∙ sym (decimal-turn s v i h) ∙ e
 
 -- v with the digit d after it is above most exactly where the quotient says so

@@ -134,7 +134,8 @@ fn write_bytes(w: &[u8], out: &mut [u8])
 
 // The bytes that a word writes, into the front of the room; nothing is written where it isn't understood.
 pub fn bytes_in(w: &[u8], out: &mut [u8]) -> Bytes
-    ensures { λ r. ⌜ (saidBytes r ≡ bytesRule (now (w .entry)) (length (now (out .entry)))) × (now (out .exit) ≡ bytesRoom (now (w .entry)) (now (out .entry))) ⌝ }
+    ensures { λ r. ⌜ (saidBytes r ≡ bytesRule (now (w .entry)) (length (now (out .entry))))
+        × (now (out .exit) ≡ bytesRoom (now (w .entry)) (now (out .entry))) ⌝ }
 {
     if w.len() % 2 != 0 {
         return Bytes::Isnt(Unclear::NotBytes);

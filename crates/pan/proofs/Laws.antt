@@ -1,4 +1,4 @@
--- The laws of masking. Assumes nothing.
+-- The laws of masking.
 use Prim.Native.Nat.{ℕ, _-_}
 use mathlib.Core.Path.{_≡_, sym, ap, _∙_}
 use mathlib.Core.Bool.{true}

@@ -1,4 +1,4 @@
--- The masked text byte by byte and as it is written, and the outcomes of masking. Assumes nothing.
+-- The masked text byte by byte and as it is written, and the outcomes of masking.
 use Prim.Native.Nat.{ℕ, _+_, _-_, _≤_, _<_}
 use mathlib.Core.Path.{_≡_, refl, sym, ap, _∙_}
 use mathlib.Core.Bool.{true, false}

@@ -1,4 +1,4 @@
--- Card numbers (document 01, 'Card numbers, masking and ranges'). Assumes nothing.
+-- Card numbers (document 01, 'Card numbers, masking and ranges').
 use Prim.Native.Nat.{ℕ, _-_}
 use mathlib.Core.Path.{_≡_}
 use mathlib.Core.Bool.{Bool}

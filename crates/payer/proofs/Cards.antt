@@ -89,7 +89,7 @@ pan-pays site acquirer pan p e =
     let c : record { pan = pan; label = b .0 } ≡ p = cc (b .2) in
     (a .0, sym (ap (λ (q : Payer). q .pan) c))
 
--- a card number that passes
+-- a card number that passes, as the journal asks of one that it books (`Fine` there)
 pub record Passing (pan : List ℕ) : Type 0 where
   pub count : panLength (length pan) ≡ true
   pub digits : allDigits pan ≡ true

@@ -1,4 +1,4 @@
--- What each record's call comes to.
+-- What each record's call comes to, and how long a script may be.
 use Prim.Native.Nat.{ℕ, zero, suc, min, _≤_, _<_, _+_, _-_, _*_, _/_, _%_}
 use mathlib.Core.Path.{_≡_, refl, sym, ap, _∙_, subst, subst⁻¹}
 use mathlib.Core.Bool.{Bool, true, false, cond}

@@ -1,15 +1,13 @@
 -- The totals of calls: they are one, those of calls after others are the sum of both, and how large they get.
-use Prim.Native.Nat.{ℕ, _<_, _+_, _-_}
+use Prim.Native.Nat.{ℕ, _<_, _+_}
 use mathlib.Core.Path.{_≡_, sym, ap, _∙_}
 use mathlib.Core.List.{List, [], _∷_, _++_}
 use native.Mathlib.Omega.{arith}
 use lib.ListN.{length, length-append}
-use Rattle.history.specs.History.{Done, takings}
-use Rattle.history.specs.History.{booked}
+use Rattle.history.specs.History.{Done, takings, booked}
 use Rattle.history.proofs.Runs.{booked-append, freed-count-append, freed-sum-append, takings-append}
 use Rattle.plays.specs.declared.Totals.{Totals}
-use Rattle.plays.specs.Script.{refusedCount, skippedCount, TotalsOf}
-use Rattle.plays.specs.Script.{Nothing, Bounded, Fits, Adds}
+use Rattle.plays.specs.Script.{refusedCount, skippedCount, TotalsOf, Nothing, Bounded, Fits, Adds}
 
 -- the totals of calls are one
 pub totals-one : (ds : List Done) (r q : Totals) → TotalsOf ds r → TotalsOf ds q → r ≡ q

@@ -14,56 +14,56 @@ use samples::W11;
 // at the box. An answer that was never sent does nothing, and a release written into the script is passed over.
 fn unheard(script: &mut [u8; 4480]) {
     let w11 = W11;
-    script_records::book(script, 0, 100, 1772236800);
-    script_records::book(script, 1, 200, 0);
-    script_records::swipe2(script, 2, 300, 135, &w11);
-    script_records::book(script, 3, 350, 0);
-    script_records::deliver(script, 4, 0);
-    script_records::answer(script, 5, 0);
-    script_records::send(script, 6, 1, 9);
-    script_records::deliver(script, 7, 9);
-    script_records::send(script, 8, 2, 1);
-    script_records::deliver(script, 9, 1);
-    script_records::answer(script, 10, 0);
-    script_records::answer(script, 11, 2);
-    script_records::release(script, 12, 3);
+    call_records::book(script, 0, 100, 1772236800);
+    call_records::book(script, 1, 200, 0);
+    call_records::swipe2(script, 2, 300, 135, &w11);
+    call_records::book(script, 3, 350, 0);
+    call_records::deliver(script, 4, 0);
+    call_records::answer(script, 5, 0);
+    call_records::send(script, 6, 1, 9);
+    call_records::deliver(script, 7, 9);
+    call_records::send(script, 8, 2, 1);
+    call_records::deliver(script, 9, 1);
+    call_records::answer(script, 10, 0);
+    call_records::answer(script, 11, 2);
+    call_records::release(script, 12, 3);
 }
 
 // Record 1 is sent again and arrives twice; its answer releases it, and payment 4 is booked over it. Record 2 arrives once more and is taken now; record 1
 // arrives once more, of which the box has nothing left. The answer of 4 was never sent.
 fn late(script: &mut [u8; 4480]) {
-    script_records::send(script, 13, 1, 0);
-    script_records::deliver(script, 14, 0);
-    script_records::deliver(script, 15, 0);
-    script_records::answer(script, 16, 1);
-    script_records::book(script, 17, 400, 1772323200);
-    script_records::deliver(script, 18, 1);
-    script_records::deliver(script, 19, 0);
-    script_records::answer(script, 20, 4);
+    call_records::send(script, 13, 1, 0);
+    call_records::deliver(script, 14, 0);
+    call_records::deliver(script, 15, 0);
+    call_records::answer(script, 16, 1);
+    call_records::book(script, 17, 400, 1772323200);
+    call_records::deliver(script, 18, 1);
+    call_records::deliver(script, 19, 0);
+    call_records::answer(script, 20, 4);
 }
 
 // Record 4 arrives before record 3, and again after it. Its answer arrives, then an older one, then the same again.
 fn caught_up(script: &mut [u8; 4480]) {
-    script_records::send(script, 21, 3, 2);
-    script_records::send(script, 22, 4, 3);
-    script_records::deliver(script, 23, 3);
-    script_records::deliver(script, 24, 2);
-    script_records::deliver(script, 25, 3);
-    script_records::answer(script, 26, 4);
-    script_records::answer(script, 27, 2);
-    script_records::answer(script, 28, 4);
+    call_records::send(script, 21, 3, 2);
+    call_records::send(script, 22, 4, 3);
+    call_records::deliver(script, 23, 3);
+    call_records::deliver(script, 24, 2);
+    call_records::deliver(script, 25, 3);
+    call_records::answer(script, 26, 4);
+    call_records::answer(script, 27, 2);
+    call_records::answer(script, 28, 4);
 }
 
 // A swipe that can't be read is refused; payment 5 is booked by the next one, sent, taken and released. The answer of 0 arrives again.
 fn one_more(script: &mut [u8; 4480]) {
     let w11 = W11;
     let e1 = E1;
-    script_records::swipe1(script, 29, 450, 135, &w11);
-    script_records::swipe1(script, 30, 500, 259, &e1);
-    script_records::send(script, 31, 5, 2);
-    script_records::deliver(script, 32, 2);
-    script_records::answer(script, 33, 5);
-    script_records::answer(script, 34, 0);
+    call_records::swipe1(script, 29, 450, 135, &w11);
+    call_records::swipe1(script, 30, 500, 259, &e1);
+    call_records::send(script, 31, 5, 2);
+    call_records::deliver(script, 32, 2);
+    call_records::answer(script, 33, 5);
+    call_records::answer(script, 34, 0);
 }
 
 // ---- what it comes to

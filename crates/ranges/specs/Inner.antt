@@ -1,4 +1,4 @@
--- What the inner functions answer. Assumes nothing.
+-- What the inner functions answer.
 use Prim.Native.Nat.{ℕ}
 use mathlib.Core.Option.{Option, some, none}
 use Rattle.reasons.specs.Reasons.{Outcome, gives, refuses, numberOf}

@@ -12,7 +12,9 @@ use Rattle.reasons.specs.declared.Phrase.{Phrase}
 use Rattle.reasons.specs.declared.Tested.{Tested}
 use Rattle.reasons.specs.declared.Tested.the-variants.{Passes, Refused}
 use Rattle.reasons.specs.declared.Reason.{Reason}
-use Rattle.reasons.specs.declared.Reason.the-variants.{ShortOutput, BadCount, BadByte, WrongCheck, UnknownCountry, WrongLayout, BadBitCount, NoStart, CutShort, WrongParity, LongTrack, WrongLrc, MarksAfter, BadTable, NoRange, BadJournal, ZeroAmount, JournalFull, SerialsUsedUp, NoSerial}
+use Rattle.reasons.specs.declared.Reason.the-variants.{ShortOutput, BadCount, BadByte, WrongCheck, UnknownCountry, WrongLayout, BadBitCount}
+use Rattle.reasons.specs.declared.Reason.the-variants.{NoStart, CutShort, WrongParity, LongTrack, WrongLrc, MarksAfter, BadTable}
+use Rattle.reasons.specs.declared.Reason.the-variants.{NoRange, BadJournal, ZeroAmount, JournalFull, SerialsUsedUp, NoSerial}
 
 -- a value is not a refusal
 pub gives-refuses : {A B : Type 0} (v : A) (n : ℕ) → _≡_ {A = Outcome A} (gives v) (refuses n) → B

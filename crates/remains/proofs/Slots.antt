@@ -14,8 +14,9 @@ use Rattle.text.proofs.Tests.{both-true}
 use Rattle.slots.specs.Record.{isHeld, isReleased, isRecord, lengthFits, kept, serialAt, amountAt, stateAt, Zeros, Digits}
 use Rattle.slots.specs.Journal.{slotsOf, place}
 use Rattle.slots.proofs.Ranges.{differ}
-use Rattle.slots.proofs.States.{kept-fits, state-released, free-no-record}
+use Rattle.slots.proofs.States.{kept-fits, state-released}
 use Rattle.surveys.specs.Survey.{Belongs}
+use Rattle.surveys.proofs.Surveys.{not-zero}
 use Rattle.remains.specs.Slot.{slotAt, isZero, fieldsOf, testsOf, passes, toldOf, toldAt}
 use Rattle.remains.specs.declared.Fields.{Fields}
 use Rattle.remains.specs.declared.Tests.{Tests}
@@ -209,13 +210,9 @@ stands j k there = go (toldAt j k) (told (slotsOf j) k (slotAt j k))
         stands-damaged (λ y. differ (every isZero (slotAt j k)) z (zeros-free j k there y))
         (λ b. differ (passes (testsOf (slotsOf j) k (slotAt j k))) p (belongs-passes j k there b))
 
--- a slot of a record that belongs there isn't free
-pub not-free : (j : List ℕ) (k : ℕ) → Belongs j k → Zeros j (32 * k) (32 * k + 32) → ⊥
-not-free j k b z = differ (isRecord 0) free-no-record (sym (ap (λ (x : ℕ). isRecord x) (z (32 * k + 15) (omega arith) (omega arith))) ∙ b .good .state)
-
--- and one that is all zero is
+-- a slot that is all zero is free
 pub zeros-told : (j : List ℕ) (k : ℕ) (s : Slot) → Stands j k s → Zeros j (32 * k) (32 * k + 32) → s ≡ Free
 zeros-told j k s (stands-free z) y = refl
-zeros-told j k s (stands-held a h q) y = absurd (not-free j k a y)
-zeros-told j k s (stands-released a h q) y = absurd (not-free j k a y)
+zeros-told j k s (stands-held a h q) y = absurd (not-zero j k a y)
+zeros-told j k s (stands-released a h q) y = absurd (not-zero j k a y)
 zeros-told j k s (stands-damaged z a) y = absurd (z y)

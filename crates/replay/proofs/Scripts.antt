@@ -19,13 +19,8 @@ use Rattle.history.proofs.Account.{Open, account}
 use Rattle.history.proofs.Demand.{sum-records}
 use Rattle.plays.specs.declared.Totals.{Totals}
 use Rattle.replay.specs.declared.Replayed.the-variants.{Played, NotWhole, TooLong}
-use Rattle.plays.specs.Script.{clockAt, callAt}
-use Rattle.plays.specs.Script.{refusedCount, skippedCount, TotalsOf}
-use Rattle.replay.specs.Replay.{Plays, no-record, one-record}
-use Rattle.plays.specs.Script.{Nothing, Bounded, PlaysOne, Adds}
-use Rattle.replay.specs.Replay.{PlaysAll}
-use Rattle.plays.specs.Script.{scriptRule}
-use Rattle.replay.specs.Replay.{Replays, played, not-whole, too-long, Conserved}
+use Rattle.plays.specs.Script.{clockAt, callAt, scriptRule, refusedCount, skippedCount, TotalsOf, Nothing, Bounded, PlaysOne, Adds}
+use Rattle.replay.specs.Replay.{Plays, no-record, one-record, PlaysAll, Replays, played, not-whole, too-long, Conserved}
 
 -- ---- one record after another
 

@@ -1,4 +1,4 @@
--- "No call compares clocks": what a salvage says of the whole of two journals that differ in clocks alone. Assumes nothing.
+-- "No call compares clocks": what a salvage says of the whole of two journals that differ in clocks alone.
 use Prim.Native.Nat.{ℕ}
 use mathlib.Core.Path.{_≡_, refl, ap, _∙_}
 use mathlib.Core.List.{List}

@@ -1,4 +1,4 @@
--- A journal is well formed exactly when every slot is fine, for the newest serial that most records agree with. Assumes nothing.
+-- A journal is well formed exactly when every slot is fine, for the newest serial that most records agree with.
 use Prim.Native.Nat.{ℕ, _≤_, _<_, _+_, _-_, _*_, _/_, _%_}
 use mathlib.Core.Path.{_≡_, refl, sym, ap, _∙_, subst, subst⁻¹}
 use mathlib.Core.Bool.{Bool, true, false, cond, _&&_}
@@ -15,11 +15,12 @@ use Rattle.slots.proofs.Form.{is-sized}
 use Rattle.slots.proofs.Ring.{kept-at}
 use Rattle.slots.proofs.States.{not-both}
 use Rattle.surveys.specs.Survey.{Belongs}
+use Rattle.surveys.proofs.Surveys.{not-zero}
 use Rattle.remains.specs.Slot.{toldAt}
 use Rattle.remains.specs.declared.Fields.{Fields}
 use Rattle.remains.specs.declared.Slot.{Slot}
 use Rattle.remains.specs.declared.Slot.the-variants.{Free, Held, Released}
-use Rattle.remains.proofs.Slots.{Stands, stands-free, stands-held, stands-released, stands-damaged, stands, zeros-told, not-free}
+use Rattle.remains.proofs.Slots.{Stands, stands-free, stands-held, stands-released, stands-damaged, stands, zeros-told}
 use Rattle.salvage.specs.Whole.{serialIn, heldIn, agrees, votes, newestOf, oldestOf, due, freeVerdict, heldVerdict, releasedVerdict, verdictOf, verdictAt}
 use Rattle.salvage.specs.declared.Verdict.{Verdict}
 use Rattle.salvage.specs.declared.Verdict.the-variants as verdict
@@ -29,13 +30,13 @@ use Rattle.salvage.proofs.Polls.{agrees-is, agrees-kept, votes-all, lea
 -- ---- a slot of a record that belongs there tells its serial
 
 serial-in : (j : List ℕ) (k : ℕ) (s : Slot) → Stands j k s → Belongs j k → serialIn s ≡ serialAt j (32 * k)
-serial-in j k s (stands-free z) b = absurd (not-free j k b z)
+serial-in j k s (stands-free z) b = absurd (not-zero j k b z)
 serial-in j k s (stands-held a h q) b = q
 serial-in j k s (stands-released a h q) b = q
 serial-in j k s (stands-damaged z a) b = absurd (a b)
 
 held-in : (j : List ℕ) (k : ℕ) (s : Slot) → Stands j k s → Belongs j k → isHeld (stateAt j (32 * k)) ≡ true → heldIn s ≡ serialAt j (32 * k)
-held-in j k s (stands-free z) b x = absurd (not-free j k b z)
+held-in j k s (stands-free z) b x = absurd (not-zero j k b z)
 held-in j k s (stands-held a h q) b x = q
 held-in j k s (stands-released a h q) b x = absurd (not-both (stateAt j (32 * k)) x h)
 held-in j k s (stands-damaged z a) b x = absurd (a b)
@@ -276,7 +277,7 @@ module _ (j : List ℕ) (b : ℕ) (form : Formed j (slotsOf j) b) where
       of-released s e u (no h) = sym (released-none s d (oldestOf j b) e (omega arith))
 
       told-fine : (s : Slot) → Stands j k s → Stood k d → b - slotsOf j < d → d ≤ b → verdictOf s d (oldestOf j b) ≡ verdict.Fine
-      told-fine s (stands-free z) w low high = absurd (not-free j k (w .belongs) z)
+      told-fine s (stands-free z) w low high = absurd (not-zero j k (w .belongs) z)
       told-fine s (stands-held a x q) w low high = sym (held-fine _ d (q ∙ w .serial))
       told-fine s (stands-released {f = f} a x q) w low high = of-released (f .serial) (q ∙ w .serial) (below w x low high) (decLt 0 (oldestOf j b))
       told-fine s (stands-damaged z a) w low high = absurd (a (w .belongs))

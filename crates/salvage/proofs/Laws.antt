@@ -1,4 +1,4 @@
--- What a salvage promises of the whole, over any bytes of a journal's length. Assumes nothing.
+-- What a salvage promises of the whole, over any bytes of a journal's length.
 use Prim.Native.Nat.{ℕ, _≤_, _<_, _+_, _*_, _/_}
 use mathlib.Core.Path.{_≡_, sym, ap, _∙_, subst}
 use mathlib.Core.Bool.{true}

@@ -1,4 +1,4 @@
--- The walks over the slots: votes, the serial that most agree with, the lowest held one. Assumes nothing.
+-- The walks over the slots: votes, the serial that most agree with, the lowest held one.
 use Prim.Native.Nat.{ℕ, zero, suc, _≤_, _<_, _+_, _-_}
 use mathlib.Core.Path.{_≡_, refl, sym, ap, _∙_, subst}
 use mathlib.Core.Bool.{Bool, true, false, cond, _&&_, _||_}

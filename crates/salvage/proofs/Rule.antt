@@ -1,4 +1,4 @@
--- The rules of the whole, outcome by outcome. Assumes nothing.
+-- The rules of the whole, outcome by outcome.
 use Prim.Native.Nat.{ℕ, _≤_, _<_, _-_, _%_}
 use mathlib.Core.Path.{_≡_}
 use mathlib.Core.Bool.{true, false}

@@ -1,5 +1,5 @@
 -- Why a journal as a whole isn't well formed, slot by slot (house; beyond document 01). The newest serial is the one that most whole records agree
--- with, so that one bad serial that happens to belong in its slot doesn't make all others look wrong. Assumes nothing.
+-- with, so that one bad serial that happens to belong in its slot doesn't make all others look wrong.
 use Prim.Native.Nat.{ℕ, zero, suc, _+_, _-_, _%_, _<_}
 use mathlib.Core.Path.{_≡_}
 use mathlib.Core.Bool.{Bool, cond, _&&_, _||_}

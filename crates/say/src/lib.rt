@@ -15,7 +15,7 @@ pub fn words(out: &mut [u8], s: &[u8]) {
     }
 }
 
-pub fn number(out: &mut [u8], n: u64) {
+fn number(out: &mut [u8], n: u64) {
     let mut digits = [0u8; 20];
     let k = io::decimal(n, &mut digits);
     words(out, &digits[..k]);
@@ -40,7 +40,7 @@ fn put_next(out: &mut [u8], b: u8, numbers: &[u64], k: usize) -> usize {
     k + 1
 }
 
-// Words with numbers among them: each `#` stands for the next of the numbers.
+// Words with numbers among them: each `#` stands for the next of the numbers, for none where there are no more; those left over are not written.
 pub fn sentence(out: &mut [u8], form: &[u8], numbers: &[u64]) {
     let mut k = 0;
     let mut i = 0;
@@ -55,7 +55,7 @@ pub fn line(out: &mut [u8]) {
 }
 
 // A text, `-` for the empty one.
-pub fn text(out: &mut [u8], s: &[u8]) {
+fn text(out: &mut [u8], s: &[u8]) {
     if s.len() == 0 {
         words(out, b"-");
     } else {

@@ -1,4 +1,4 @@
--- No call compares clocks: a journal's view is told by its bytes outside its records' clocks. Assumes nothing.
+-- No call compares clocks: a journal's view is told by its bytes outside its records' clocks.
 use Prim.Native.Nat.{ℕ, _<_, _+_, _-_, _*_, _/_, _%_}
 use mathlib.Core.Path.{_≡_, refl, sym, ap, _∙_, subst}
 use mathlib.Core.Bool.{Bool, false, _&&_, and-false}

@@ -1,4 +1,4 @@
--- The newest serial is the highest that stands in a slot, so that there is only one. Assumes nothing.
+-- The newest serial is the highest that stands in a slot, so that there is only one.
 use Prim.Native.Nat.{ℕ, _≤_, _<_, _+_, _-_, _*_, _/_, _%_}
 use mathlib.Core.Path.{_≡_, ap, _∙_, subst}
 use mathlib.Core.Bool.{true, false}

@@ -1,4 +1,4 @@
--- The paper's sentences on well-formed journals. Assumes nothing.
+-- The paper's sentences on well-formed journals.
 use Prim.Native.Nat.{ℕ, _≤_, _<_, _*_}
 use mathlib.Core.Path.{_≡_}
 use mathlib.Core.List.{List}

@@ -1,4 +1,4 @@
--- What the walk down the serials has passed: the records above s are good and in order. Assumes nothing.
+-- What the walk down the serials has passed: the records above s are good and in order.
 use Prim.Native.Nat.{ℕ, _≤_, _<_, _-_}
 use mathlib.Core.Path.{_≡_, refl, sym, ap, _∙_, subst, subst⁻¹}
 use mathlib.Core.Bool.{Bool, true, false, not}

@@ -1,4 +1,4 @@
--- Answers that tell, what holds of every number of a range, and four zeros at a look. Assumes nothing.
+-- Answers that tell, what holds of every number of a range, and four zeros at a look.
 use Prim.Native.Nat.{ℕ, _≤_, _<_, _+_, _-_}
 use mathlib.Core.Path.{_≡_, ap, _∙_, subst⁻¹}
 use mathlib.Core.Bool.{Bool, true, false}

@@ -1,4 +1,4 @@
--- The record that a booking writes, and records told byte by byte. Assumes nothing.
+-- The record that a booking writes, and records told byte by byte.
 use Prim.Native.Nat.{ℕ, _≤_, _<_, _+_, _-_}
 use mathlib.Core.Path.{_≡_, refl, sym, ap, _∙_}
 use mathlib.Core.Bool.{Bool, true, false, _||_}

@@ -1,4 +1,4 @@
--- The ring of slots: where serials stand, neighbours, serials in different slots. Assumes nothing.
+-- The ring of slots: where serials stand, neighbours, serials in different slots.
 use Prim.Native.Nat.{ℕ, _≤_, _<_, _+_, _-_, _*_, _/_, _%_}
 use mathlib.Core.Path.{_≡_, sym, ap, _∙_}
 use native.Mathlib.Omega.{arith}

@@ -1,4 +1,4 @@
--- What the state bytes say: the laws behind the names held, released, free. Assumes nothing.
+-- What the state bytes say: the laws behind the names held, released, free.
 use Prim.Native.Nat.{ℕ, _≤_, _+_}
 use mathlib.Core.Path.{_≡_, refl, subst}
 use mathlib.Core.Bool.{Bool, true, false, _||_}

@@ -1,4 +1,4 @@
--- A journal has one view: the law by which each promise determines its outcome. Assumes nothing.
+-- A journal has one view: the law by which each promise determines its outcome.
 use Prim.Native.Nat.{ℕ}
 use mathlib.Core.Path.{_≡_, refl, ap, subst}
 use mathlib.Core.List.{List}

@@ -1,4 +1,4 @@
--- When a journal is well formed, in the paper's words. Assumes nothing.
+-- When a journal is well formed, in the paper's words.
 use Prim.Native.Nat.{ℕ, _-_, _*_, _/_, _%_, _≤_, _<_}
 use mathlib.Core.Path.{_≡_}
 use mathlib.Core.Bool.{Bool, true, false, _&&_}

@@ -1,5 +1,5 @@
 -- A record's 32 bytes: serial 0 to 3, clock 4 to 7, amount 8 to 11, label 12 to 13, PAN length 14, state 15 (0 free, 1 held, 2 released),
--- first six digits 16 to 21, last four 22 to 25, zeros 26 to 31. Assumes nothing.
+-- first six digits 16 to 21, last four 22 to 25, zeros 26 to 31.
 use Prim.Native.Nat.{ℕ, _+_, _-_, _≤_, _<_}
 use mathlib.Core.Path.{_≡_}
 use mathlib.Core.Bool.{Bool, true, _||_}

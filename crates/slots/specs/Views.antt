@@ -1,4 +1,4 @@
--- Views: a call on a journal promises its rule for the one view that the journal has. Assumes nothing.
+-- Views: a call on a journal promises its rule for the one view that the journal has.
 use Prim.Native.Nat.{ℕ}
 use mathlib.Core.Bool.{Bool, true, false}
 use mathlib.Core.List.{List}

@@ -1,5 +1,5 @@
 -- Writes in their order, against power cuts: the bytes that a call changes, as a list, in the order in which whoever keeps the journal copies
--- them to memory that outlives the power. Assumes nothing.
+-- them to memory that outlives the power.
 use Prim.Native.Nat.{ℕ, zero, suc, _+_, _%_}
 use mathlib.Core.List.{List, [], _∷_}
 use lib.ListN.{getD, set}

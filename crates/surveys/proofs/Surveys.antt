@@ -10,12 +10,12 @@ use lib.ListN.{length, getD, set}
 use lib.Seq.{getD-set-same, getD-set-other, ext-getD}
 use Rattle.reasons.specs.Reasons.{Outcome, gives, refuses, numberOf}
 use Rattle.reasons.proofs.Laws.{gives-refuses, refuses-one}
-use Rattle.slots.specs.Record.{isHeld, isReleased, serialAt, stateAt, Zeros, Good}
+use Rattle.slots.specs.Record.{isHeld, isRecord, serialAt, stateAt, Zeros, Good}
 use Rattle.slots.specs.Journal.{slotsOf, sized, place}
 use Rattle.slots.specs.Views.{formed}
 use Rattle.slots.specs.declared.Newest.{Newest}
 use Rattle.slots.proofs.Ranges.{differ}
-use Rattle.slots.proofs.States.{not-both, state-released, free-not-held, free-not-released}
+use Rattle.slots.proofs.States.{not-both, free-no-record}
 use Rattle.slots.proofs.Passed.{good-released}
 use Rattle.slots.proofs.Views.{one-view}
 use Rattle.surveys.specs.declared.Surveyed.{Surveyed}
@@ -84,12 +84,8 @@ survey-filled j out k o f e s = (e, subst (λ (o : Outcome Bool). Fills j out o 
 -- ---- one outcome
 
 -- a record that belongs is not all zero
-not-zero : (j : List ℕ) (k : ℕ) → Belongs j k → Zeros j (32 * k) (32 * k + 32) → ⊥
-not-zero j k b z =
-    let e : stateAt j (32 * k) ≡ 0 = z (32 * k + 15) (omega arith) (omega arith) in
-    let r : isReleased 0 ≡ true =
-    subst (λ (x : ℕ). isReleased x ≡ true) e (state-released (stateAt j (32 * k)) (b .good .state) (ap isHeld e ∙ free-not-held)) in
-    differ (isReleased 0) free-not-released r
+pub not-zero : (j : List ℕ) (k : ℕ) → Belongs j k → Zeros j (32 * k) (32 * k + 32) → ⊥
+not-zero j k b z = differ (isRecord 0) free-no-record (sym (ap (λ (x : ℕ). isRecord x) (z (32 * k + 15) (omega arith) (omega arith))) ∙ b .good .state)
 
 slot-one : (j : List ℕ) (k x y : ℕ) → SlotIs j k x → SlotIs j k y → x ≡ y
 slot-one j k x y (free z) (free w) = refl

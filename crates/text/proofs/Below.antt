@@ -1,4 +1,4 @@
--- A fact of every number below a bound, proved by one test that antt computes. Assumes nothing.
+-- A fact of every number below a bound, proved by one test that antt computes.
 use Prim.Native.Nat.{ℕ, zero, suc, _<_}
 use mathlib.Core.Path.{_≡_, sym, subst}
 use mathlib.Core.Bool.{Bool, true, false, _&&_}

@@ -1,4 +1,4 @@
--- Numbers written into bytes are read back; a run of digits, one turn of its loop and its bound. Assumes nothing.
+-- Numbers written into bytes are read back; a run of digits, one turn of its loop and its bound.
 use Prim.Native.Nat.{ℕ, suc, _≤_, _<_, _+_, _-_, _*_, _/_, _%_, _^_}
 use mathlib.Core.Path.{_≡_, sym, ap, _∙_}
 use mathlib.Core.Bool.{true}

@@ -1,4 +1,4 @@
--- A part has one place and one content; a piece ends where its text does. Assumes nothing.
+-- A part has one place and one content; a piece ends where its text does.
 use Prim.Native.Nat.{ℕ, _-_, _≤_}
 use mathlib.Core.Path.{_≡_, sym, ap, _∙_}
 use mathlib.Core.List.{List, []}

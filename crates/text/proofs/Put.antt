@@ -1,4 +1,4 @@
--- A run of bytes written over a list: the copy's turns, and what each byte then is. Assumes nothing.
+-- A run of bytes written over a list: the copy's turns, and what each byte then is.
 use Prim.Native.Nat.{ℕ, _≤_, _<_, _+_, _-_}
 use mathlib.Core.Path.{_≡_, sym, ap, _∙_}
 use mathlib.Core.List.{List, _++_}

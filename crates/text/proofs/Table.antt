@@ -1,4 +1,4 @@
--- A table's rule: tested once over all entries, by a test that antt computes, and carried to each look-up. Assumes nothing.
+-- A table's rule: tested once over all entries, by a test that antt computes, and carried to each look-up.
 use Prim.Native.Nat.{ℕ, zero, suc, _+_, _<_}
 use mathlib.Core.Path.{_≡_, ap, _∙_}
 use mathlib.Core.Bool.{Bool}

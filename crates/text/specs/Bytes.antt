@@ -1,4 +1,4 @@
--- Texts as document 01 has them: bytes in ASCII. "Digit" is 48 to 57, "capital" is 65 to 90. Assumes nothing.
+-- Texts as document 01 has them: bytes in ASCII. "Digit" is 48 to 57, "capital" is 65 to 90.
 use Prim.Native.Nat.{ℕ}
 use Prim.Native.Char.{code}
 use Prim.Native.String.{String, [] as empty, _∷_ as _then_}

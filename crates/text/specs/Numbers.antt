@@ -1,4 +1,4 @@
--- Numbers: in bytes, "unsigned, lowest byte first", and in digits. Assumes nothing.
+-- Numbers: in bytes, "unsigned, lowest byte first", and in digits.
 use Prim.Native.Nat.{ℕ, _+_, _-_, _*_, _/_, _%_}
 use mathlib.Core.List.{List, [], _∷_, _++_}
 use lib.ListN.{getD, take, drop, length}

@@ -1,4 +1,4 @@
--- Parts of lent slices. Assumes nothing.
+-- Parts of lent slices.
 use Prim.Native.Nat.{ℕ, _+_}
 use mathlib.Core.Path.{_≡_}
 use mathlib.Core.Bool.{cond}

@@ -1,4 +1,4 @@
--- Seven bits may read both ways round, where five can't: forward is taken. Assumes nothing.
+-- Seven bits may read both ways round, where five can't: forward is taken.
 use mathlib.Core.Path.{_≡_, refl, ap₂}
 use mathlib.Core.Bool.{Bool, true, false}
 use mathlib.Core.List.{List, [], _∷_, reverse}

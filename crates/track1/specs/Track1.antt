@@ -1,4 +1,4 @@
--- Track 1 (request E1, 'Fleet cards on track 1'). Assumes nothing.
+-- Track 1 (request E1, 'Fleet cards on track 1').
 use mathlib.Core.Bool.{true, false}
 use mathlib.Core.List.{List, [], _∷_}
 use Prim.Native.Nat.{ℕ}

@@ -1,4 +1,4 @@
--- Beyond the paper, for five bits: a stream that reads forward does not read reversed, nor does it with one bit flipped. Assumes nothing.
+-- Beyond the paper, for five bits: a stream that reads forward does not read reversed, nor does it with one bit flipped.
 -- A stream that reads reversed begins, behind zeros, with five bits of odd parity, then five ones, and holds a start sentinel behind them.
 -- One that reads forward begins, behind zeros, with 11010 and a character of odd parity. Both at once leave no place for the five ones.
 use mathlib.Core.Path.{_≡_, refl, sym, ap, _∙_, subst}

@@ -1,4 +1,4 @@
--- The laws of track 2: those of every proper format, of which its own is one. Assumes nothing.
+-- The laws of track 2: those of every proper format, of which its own is one.
 use mathlib.Core.Path.{_≡_, refl}
 use mathlib.Core.Bool.{true, false}
 use mathlib.Core.List.{List, [], _∷_}

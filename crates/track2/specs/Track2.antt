@@ -1,4 +1,4 @@
--- Track 2 (document 01, 'Track 2 from bits'). Assumes nothing.
+-- Track 2 (document 01, 'Track 2 from bits').
 use mathlib.Core.Bool.{true, false}
 use mathlib.Core.List.{List, [], _∷_}
 use Prim.Native.Nat.{ℕ}

@@ -1,4 +1,4 @@
--- A walker taken apart: what the struct owns gives what a function on its two fields asks, and is kept. Assumes nothing.
+-- A walker taken apart: what the struct owns gives what a function on its two fields asks, and is kept.
 use mathlib.Core.Path.{_≡_, refl}
 use Prim.Native.Nat.{_<_, _^_}
 use mathlib.Core.List.{[], _∷_}

@@ -1,4 +1,4 @@
--- A held record, test by test, and the part that is given. Assumes nothing.
+-- A held record, test by test, and the part that is given.
 use Prim.Native.Nat.{ℕ, _≤_, _<_, _+_}
 use mathlib.Core.Path.{_≡_, refl, sym, _∙_}
 use mathlib.Core.Bool.{true, false}

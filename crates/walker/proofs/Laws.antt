@@ -1,4 +1,4 @@
--- The whole walk: the records that a walker gives are the held payments' list, in order, and nothing else. Assumes nothing.
+-- The whole walk: the records that a walker gives are the held payments' list, in order, and nothing else.
 use Prim.Native.Nat.{ℕ, zero, suc, _≤_, _<_, _+_, _-_, _%_}
 use mathlib.Core.Path.{_≡_, refl, sym, ap, _∙_}
 use mathlib.Core.Bool.{Bool, true, false, cond}

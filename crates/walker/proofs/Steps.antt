@@ -1,4 +1,4 @@
--- One step of a walk as the code takes it, and as its rule says. Assumes nothing.
+-- One step of a walk as the code takes it, and as its rule says.
 use Prim.Native.Nat.{ℕ, zero, suc, max, _-_, _≤_, _<_}
 use mathlib.Core.Path.{_≡_, refl, sym, ap, _∙_}
 use mathlib.Core.List.{List}

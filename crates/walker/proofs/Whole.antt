@@ -1,4 +1,4 @@
--- Whole walks by steps: on a well-formed journal they give the held list, each record once, then say done. Assumes nothing.
+-- Whole walks by steps: on a well-formed journal they give the held list, each record once, then say done.
 use Prim.Native.Nat.{ℕ, zero, suc, max, _≤_, _<_, _+_, _-_}
 use mathlib.Core.Path.{_≡_, refl, sym, ap, _∙_, subst, subst⁻¹}
 use mathlib.Core.Bool.{Bool, true, cond}

@@ -1,4 +1,4 @@
--- A walk by steps, for callers who hold no walker: each step is asked for by a serial. Assumes nothing.
+-- A walk by steps, for callers who hold no walker: each step is asked for by a serial.
 use Prim.Native.Nat.{ℕ, zero, suc, max, _-_}
 use mathlib.Core.Path.{_≡_}
 use mathlib.Core.List.{List, [], _∷_}

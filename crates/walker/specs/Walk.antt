@@ -1,4 +1,4 @@
--- What a walker gives: the record of its serial, the serial after, and the whole walk. Assumes nothing.
+-- What a walker gives: the record of its serial, the serial after, and the whole walk.
 use Prim.Native.Nat.{ℕ, zero, suc, _+_}
 use mathlib.Core.Path.{_≡_}
 use mathlib.Core.Bool.{Bool, not, cond, _&&_}

@@ -1,4 +1,4 @@
--- "To be proved together, as a single statement over a list": W1 to W13 hold, by computation, and so does the fleet card. Assumes nothing.
+-- "To be proved together, as a single statement over a list": W1 to W13 hold, by computation, and so does the fleet card.
 use Prim.Native.Nat.{ℕ, _≤_}
 use mathlib.Core.Path.{_≡_, refl, ap, _∙_}
 use mathlib.Core.Bool.{true}

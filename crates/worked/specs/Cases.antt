@@ -1,5 +1,5 @@
 -- The worked cases of document 01, and a fleet card for request E1, as lists, and what it means that a case holds: over the definitions that the
--- promises use. Assumes nothing.
+-- promises use.
 use Prim.Native.Nat.{ℕ, zero, suc, _+_, _-_, _/_, _%_, _≤_}
 use Prim.Native.String.{String}
 use mathlib.Core.Path.{_≡_}

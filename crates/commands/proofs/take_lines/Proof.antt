@@ -1,4 +1,4 @@
--- `take_lines`: the turns left fall, and what is still to be taken stays within the input. Assumes nothing.
+-- `take_lines`: the turns left fall, and what is still to be taken stays within the input.
 use Prim.Native.Nat.{_≤_}
 use borrow.Author.Needs.{needs}
 use lib.ListN.{length}

@@ -1,4 +1,4 @@
--- `all_plain`: what was seen of the text is plain, and so is what is left, exactly where the whole is. Assumes nothing.
+-- `all_plain`: what was seen of the text is plain, and so is what is left, exactly where the whole is.
 use Prim.Native.Nat.{_≤_, _-_}
 use mathlib.Core.Path.{_≡_, refl}
 use mathlib.Core.Bool.{_&&_}

@@ -1,4 +1,4 @@
--- `fill_standard`: the turns left fall. Assumes nothing.
+-- `fill_standard`: the turns left fall.
 use Prim.Native.Nat.{_≤_}
 use borrow.Author.Needs.{needs}
 use Rattle.disk.proofs.fill_standard.Statement.{statement}

@@ -1,4 +1,4 @@
--- `last_part`: from the end down. Assumes nothing.
+-- `last_part`: from the end down.
 use Prim.Native.Nat.{_≤_}
 use borrow.Author.Needs.{needs}
 use lib.ListN.{length}

@@ -1,4 +1,4 @@
--- `number_of`: what isn't negative keeps its number. Assumes nothing.
+-- `number_of`: what isn't negative keeps its number.
 use borrow.Author.Needs.{needs}
 use mathlib.Core.Bool.{Bool, not}
 use mathlib.Core.Path.{sym, subst}

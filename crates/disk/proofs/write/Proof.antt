@@ -1,4 +1,4 @@
--- `write`: the slot stays within the ring, and what is left falls. Assumes nothing.
+-- `write`: the slot stays within the ring, and what is left falls.
 use Prim.Native.Nat.{_<_}
 use borrow.Author.Needs.{needs}
 use native.Mathlib.Nat.{mod-lt}

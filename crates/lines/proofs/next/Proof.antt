@@ -1,4 +1,4 @@
--- `next`: the steps left fall, and each step keeps the bounds. Assumes nothing.
+-- `next`: the steps left fall, and each step keeps the bounds.
 use borrow.Author.Needs.{needs}
 use lib.ListN.{length}
 use mathlib.Core.Path.{_≡_}

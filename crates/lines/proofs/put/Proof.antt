@@ -1,4 +1,4 @@
--- `put`: a byte taken makes the line one longer. Assumes nothing.
+-- `put`: a byte taken makes the line one longer.
 use borrow.Author.Needs.{needs}
 use lib.ListN.{length-set}
 use native.Mathlib.Omega.{arith}

@@ -1,4 +1,4 @@
--- `first_living`: the steps left fall. Assumes nothing.
+-- `first_living`: the steps left fall.
 use borrow.Author.Needs.{needs}
 use lib.ListN.{length}
 use mathlib.Core.Path.{_≡_}

@@ -1,4 +1,4 @@
--- `take_in`: the turns left fall. Assumes nothing.
+-- `take_in`: the turns left fall.
 use Prim.Native.Nat.{_≤_}
 use borrow.Author.Needs.{needs}
 use Rattle.lock.proofs.take_in.Statement.{statement}

@@ -1,4 +1,4 @@
--- `sum`: the loop's invariant is the record `At`, and its measure the index. Assumes nothing.
+-- `sum`: the loop's invariant is the record `At`, and its measure the index.
 use mathlib.Core.Path.{_≡_, sym, _∙_}
 use mathlib.Core.Bool.{true}
 use Prim.Native.Nat.{_-_}

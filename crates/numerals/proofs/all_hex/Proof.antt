@@ -29,7 +29,8 @@ hex-value-requires c κs = search needs
 returns : tie.Need-returns Inv-loop μ-loop
 returns c =
     let l = c .before .before .before .before in
-    turn-no isHex (l .before .before .args .w .now) (l .loop .i) _ (omega arith) (l .loop .inv .1) (hex-no _ (let e = c .before .hex-value .ensures in omega arith))
+    turn-no isHex (l .before .before .args .w .now) (l .loop .i) _ (omega arith) (l .loop .inv .1)
+    (hex-no _ (let e = c .before .hex-value .ensures in omega arith))
 
 add-i : tie.Need-add-i Inv-loop μ-loop
 add-i c = search needs
@@ -39,8 +40,11 @@ loop-less c = search needs
 
 loop-again : tie.Need-loop-again Inv-loop μ-loop
 loop-again c =
-    let l = c .before .before .before .before in
-    (omega arith, turn-yes isHex (l .before .before .args .w .now) (l .loop .i) _ (omega arith) (l .loop .inv .1) (hex-yes _ (let e = c .before .hex-value .ensures in omega arith)))
+    let l = c .before .before .before .before in (
+      omega arith,
+      turn-yes isHex (l .before .before .args .w .now) (l .loop .i) _ (omega arith) (l .loop .inv .1)
+          (hex-yes _ (let e = c .before .hex-value .ensures in omega arith)),
+    )
 
 returns-2 : tie.Need-returns-2 Inv-loop μ-loop
 returns-2 c = sym (end isHex (c .before .before .before .args .w .now) (c .before .loop .i) (omega arith)) ∙ c .before .loop .inv .1

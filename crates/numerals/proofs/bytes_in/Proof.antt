@@ -36,7 +36,8 @@ returns-4 c =
     let w = c .before .before in
     let h = w .before .before .before .before in
     let a = h .before .before .before .before .args in
-    let e = fitting (a .w .now) (a .out .now) (h .before .if1 .left) (sym (h .all-hex .ensures) ∙ not-false _ (w .before .before .before .if2 .left)) (w .before .before .if3 .left) in
+    let hex = sym (h .all-hex .ensures) ∙ not-false _ (w .before .before .before .if2 .left) in
+    let e = fitting (a .w .now) (a .out .now) (h .before .if1 .left) hex (w .before .before .if3 .left) in
     (e .0, w .write-bytes .ensures ∙ e .1)
 
 pub bytes-in-spec : {M : Type 1} → statement M

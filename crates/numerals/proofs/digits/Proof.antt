@@ -42,7 +42,8 @@ step : (c : tie.After-passes-over Inv-loop μ-loop) →
 step c =
     let d = c .before in
     let l = d .before .before .before in
-    decimal-step (l .before .before .args .w .now) (l .loop .v) (l .loop .i) (d .digit-value .result) _ (omega arith) (l .loop .inv .1) (d .digit-value .ensures .0)
+    decimal-step (l .before .before .args .w .now) (l .loop .v) (l .loop .i) (d .digit-value .result) _ (omega arith) (l .loop .inv .1)
+    (d .digit-value .ensures .0)
 
 -- the field holds it
 held : (c : tie.Else1 Inv-loop μ-loop) → grown (c .before) ≤ c .before .before .before .before .before .before .before .args .most

@@ -1,4 +1,4 @@
--- `mask` goes through its tests in the paper's order. Assumes nothing.
+-- `mask` goes through its tests in the paper's order.
 use mathlib.Core.Path.{_≡_, sym, _∙_}
 use mathlib.Core.Bool.{true}
 use native.Mathlib.Omega.{arith}

@@ -1,4 +1,4 @@
--- `write_masked`: stars, and the digits shown over them. Assumes nothing.
+-- `write_masked`: stars, and the digits shown over them.
 use Prim.Native.Nat.{_+_, _≤_}
 use mathlib.Core.Path.{sym}
 use native.Mathlib.Omega.{arith}

@@ -1,4 +1,4 @@
--- `write_stars`: after i turns the output is i stars and what stood behind them. Assumes nothing.
+-- `write_stars`: after i turns the output is i stars and what stood behind them.
 use Prim.Native.Nat.{ℕ, _≤_, _-_}
 use mathlib.Core.Path.{_≡_, refl, ap, _∙_}
 use mathlib.Core.List.{List, _++_}

@@ -1,4 +1,4 @@
--- `find` goes through its tests in the paper's order. Assumes nothing.
+-- `find` goes through its tests in the paper's order.
 use mathlib.Core.Path.{_≡_, sym, _∙_}
 use mathlib.Core.Bool.{true, _&&_}
 use native.Mathlib.Omega.{arith}

@@ -1,4 +1,4 @@
--- `look_up` gives the part that `find` names. Assumes nothing.
+-- `look_up` gives the part that `find` names.
 use mathlib.Core.Path.{_≡_, refl, sym, ap, _∙_}
 use native.Mathlib.Omega.{arith}
 use native.Mathlib.Nat.{add-sub-cancel-left}

@@ -1,4 +1,4 @@
--- `look_up_number` says what `find` says. Assumes nothing.
+-- `look_up_number` says what `find` says.
 use mathlib.Core.Path.{sym, ap, _∙_}
 use Rattle.reasons.specs.Reasons.{numberIn}
 use Rattle.ranges.specs.Ranges.{saidFound}

@@ -11,8 +11,6 @@ use Rattle.reasons.specs.Lines.{line}
 use Rattle.reasons.proofs.Lines.{line-none, line-nearer, line-same}
 use Rattle.reasons.proofs.line_start.Statement.{statement}
 use Rattle.reasons.proofs.line_start.Tie as tie
-use Rattle.reasons.proofs.line_start.Reads as reads
-use Rattle.reasons.proofs.line_start.Lts as lts
 
 abbrev Inv-loop : tie.InvT-loop
 Inv-loop text n left₀ at₀ left at = (at ≤ length text) × (line left (drop at text) ≡ line n text)

@@ -1,4 +1,4 @@
--- `phrase`: its length lies within its bytes. Assumes nothing.
+-- `phrase`: its length lies within its bytes.
 use borrow.Author.Needs.{needs}
 use lib.Seq.{length-take-le}
 use mathlib.Core.Path.{sym}

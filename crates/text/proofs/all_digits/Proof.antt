@@ -1,4 +1,4 @@
--- `all_digits`: what was seen of the text and what is left has digits alone exactly where the whole has. Assumes nothing.
+-- `all_digits`: what was seen of the text and what is left has digits alone exactly where the whole has.
 use Prim.Native.Nat.{_≤_, _-_}
 use mathlib.Core.Path.{_≡_, refl}
 use mathlib.Core.Bool.{_&&_}

@@ -1,4 +1,4 @@
--- `decimal`: what is left of the digits, after what was read, writes the whole number; i digits write less than 10 ^ i. Assumes nothing.
+-- `decimal`: what is left of the digits, after what was read, writes the whole number; i digits write less than 10 ^ i.
 use Prim.Native.Nat.{ℕ, _≤_, _<_, _+_, _*_, _-_, _^_}
 use mathlib.Core.Path.{_≡_, refl, sym, ap, _∙_}
 use mathlib.Core.Bool.{true}

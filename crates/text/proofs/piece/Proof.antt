@@ -1,4 +1,4 @@
--- `piece`: nothing past the end, the rest where it is shorter, else n bytes. Assumes nothing.
+-- `piece`: nothing past the end, the rest where it is shorter, else n bytes.
 use borrow.Author.Needs.{needs}
 use borrow.Author.Tests.{lt-ltb, le-ltb}
 use lib.Dec.{ltb}

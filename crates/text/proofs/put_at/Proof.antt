@@ -1,4 +1,4 @@
--- `put_at` writes vs over s from `at`: after i turns s is the entry list with the first i bytes of vs pasted in. Assumes nothing.
+-- `put_at` writes vs over s from `at`: after i turns s is the entry list with the first i bytes of vs pasted in.
 use Prim.Native.Nat.{_≤_, _-_}
 use mathlib.Core.Path.{_≡_, refl}
 use native.Mathlib.Omega.{arith}

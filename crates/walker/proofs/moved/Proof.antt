@@ -1,5 +1,5 @@
 -- `walker::moved` meets its contract: a walk of its MIR, by hand. The struct is taken apart, `next_of` is called, and a struct is made anew of the slice and the answer.
--- Assumes nothing.
+--
 use mathlib.Core.Path.{_≡_, refl, ap}
 use Prim.Native.Nat.{ℕ, _<_, _^_}
 use mathlib.Core.List.{[], _∷_}

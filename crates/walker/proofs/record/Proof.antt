@@ -1,5 +1,5 @@
 -- `walker::record` meets its contract: a walk of its MIR, by hand, after `reader/proofs/next`. The struct is taken apart, and `held_at` is called, whose result, a part of the slice, is handed back.
--- Assumes nothing.
+--
 use mathlib.Core.Path.{refl}
 use Prim.Native.Nat.{ℕ}
 use mathlib.Core.List.{List, [], _∷_}

@@ -1,5 +1,5 @@
 -- `walker::start` meets its contract: a walk of its MIR, by hand. `oldest` is called on the slice, and the struct is made of the slice and its answer.
--- Assumes nothing.
+--
 use mathlib.Core.Path.{refl, ap}
 use Prim.Native.Nat.{ℕ, _<_, _^_}
 use mathlib.Core.List.{List, [], _∷_}

@@ -1,4 +1,4 @@
--- `used_slots`: one turn for each slot. Assumes nothing.
+-- `used_slots`: one turn for each slot.
 use Prim.Native.Nat.{_≤_, _-_, _/_}
 use borrow.Author.Needs.{needs}
 use lib.ListN.{length}

@@ -1,4 +1,4 @@
--- `damaged`: one turn for each slot. Assumes nothing.
+-- `damaged`: one turn for each slot.
 use Prim.Native.Nat.{_≤_, _-_}
 use borrow.Author.Needs.{needs}
 use lib.ListN.{length}

@@ -1,4 +1,4 @@
--- `how_many`: no more than were passed. Assumes nothing.
+-- `how_many`: no more than were passed.
 use Prim.Native.Nat.{_≤_, _-_}
 use borrow.Author.Needs.{needs}
 use lib.ListN.{length}

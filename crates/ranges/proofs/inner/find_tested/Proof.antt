@@ -1,4 +1,4 @@
--- `find_tested` asks the site's table, then the acquirer's. Assumes nothing.
+-- `find_tested` asks the site's table, then the acquirer's.
 use Prim.Native.Nat.{ℕ}
 use mathlib.Core.Path.{_≡_, sym, ap, _∙_}
 use native.Mathlib.Omega.{arith}

@@ -1,4 +1,4 @@
--- `fits` goes through a record's four ends. Assumes nothing.
+-- `fits` goes through a record's four ends.
 use mathlib.Core.Path.{sym}
 use native.Mathlib.Omega.{arith}
 use Rattle.ranges.proofs.Steps.{below, above, too-short, up-to}

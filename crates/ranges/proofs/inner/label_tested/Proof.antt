@@ -1,4 +1,4 @@
--- `label_tested` reads the label of the record that `find_tested` names. Assumes nothing.
+-- `label_tested` reads the label of the record that `find_tested` names.
 use mathlib.Core.Path.{_≡_, sym, ap, _∙_}
 use native.Mathlib.Omega.{arith}
 use Prim.Native.Nat.{ℕ}

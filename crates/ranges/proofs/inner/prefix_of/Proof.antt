@@ -1,4 +1,4 @@
--- `prefix_of` reads eight digits. Assumes nothing.
+-- `prefix_of` reads eight digits.
 use native.Mathlib.Omega.{arith}
 use lib.ListN.{length-take}
 use Rattle.ranges.proofs.Steps.{front-digits, prefix-bound}

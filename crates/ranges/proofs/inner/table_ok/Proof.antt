@@ -1,4 +1,4 @@
--- `table_ok` tests the two halves of its rule. Assumes nothing.
+-- `table_ok` tests the two halves of its rule.
 use borrow.Author.Tests.{eq-eqb, ne-eqb}
 use Rattle.ranges.specs.Ranges.{tableOk}
 use Rattle.ranges.proofs.inner.table_ok.Statement.{statement}

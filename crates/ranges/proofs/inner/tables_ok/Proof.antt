@@ -1,4 +1,4 @@
--- `tables_ok` tests the site's table, then the acquirer's. Assumes nothing.
+-- `tables_ok` tests the site's table, then the acquirer's.
 use mathlib.Core.Path.{sym, _∙_}
 use borrow.Author.Needs.{needs}
 use Rattle.ranges.proofs.inner.tables_ok.Statement.{statement}

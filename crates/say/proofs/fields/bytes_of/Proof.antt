@@ -1,4 +1,4 @@
--- `bytes_of`: what is understood fits into the room. Assumes nothing.
+-- `bytes_of`: what is understood fits into the room.
 use Rattle.numerals.proofs.Laws.{bytes-fit}
 use borrow.Author.Needs.{needs}
 use native.Mathlib.Omega.{arith}

@@ -1,4 +1,4 @@
--- `number`: what is understood is no more than the field holds. Assumes nothing.
+-- `number`: what is understood is no more than the field holds.
 use Rattle.numerals.proofs.Laws.{number-fits}
 use borrow.Author.Needs.{needs}
 use Rattle.say.proofs.fields.number.Statement.{statement}

@@ -2,9 +2,9 @@
 use borrow.Author.Needs.{needs}
 use borrow.Author.Tests.{not-true, not-false}
 use mathlib.Core.Path.{sym, _∙_}
-use Rattle.queue.proofs.Lines.{now-none, now-same}
-use Rattle.queue.proofs.is_now.Statement.{statement}
-use Rattle.queue.proofs.is_now.Tie as tie
+use Rattle.lock_lines.proofs.Lines.{now-none, now-same}
+use Rattle.lock_lines.proofs.is_now.Statement.{statement}
+use Rattle.lock_lines.proofs.is_now.Tie as tie
 
 blank-requires : tie.Need-blank-requires
 blank-requires c κs = search needs
@@ -34,7 +34,8 @@ returns-2 c =
     let signs = c .before .before .before .before in
     let blanks = signs .before .before .before in
     c .is-same .ensures
-    ∙ now-same _ _ _ _ _ (signs .before .before .piece .ensures .bytes) _ _ (blanks .blank .ensures .0) (sym (signs .sign .ensures .0) ∙ not-false _ (c .before .before .if1 .left)) (signs .sign .ensures .1)
+    ∙ now-same _ _ _ _ _ (signs .before .before .piece .ensures .bytes) _ _ (blanks .blank .ensures .0)
+    (sym (signs .sign .ensures .0) ∙ not-false _ (c .before .before .if1 .left)) (signs .sign .ensures .1)
 
 pub is-now-spec : {M : Type 1} → statement M
 is-now-spec =

@@ -8,7 +8,7 @@ use lib.ListN.{length, drop, getD, drop-of-length-le}
 use lib.Seq.{drop-cons}
 use borrow.Author.Tests.{eq-eqb, ne-eqb}
 use Rattle.script.specs.Words.{word, same}
-use Rattle.queue.specs.Stat.{afterLast, afterName, ended, startTime}
+use Rattle.lock_lines.specs.Stat.{afterLast, afterName, ended, startTime}
 
 module _ (s : List ℕ) (i at : ℕ) where
   -- a `)` makes what follows it the best so far, any other byte leaves it

@@ -1,9 +1,9 @@
 -- `sign`: the fields fit, and are written one after another.
 use borrow.Author.Needs.{needs}
 use native.Mathlib.Omega.{arith}
-use Rattle.queue.proofs.Lines.{no-start, long-pid, long-start, long-boot, all-signed, written}
-use Rattle.queue.proofs.sign.Statement.{statement}
-use Rattle.queue.proofs.sign.Tie as tie
+use Rattle.lock_lines.proofs.Lines.{no-start, long-pid, long-start, long-boot, all-signed, written}
+use Rattle.lock_lines.proofs.sign.Statement.{statement}
+use Rattle.lock_lines.proofs.sign.Tie as tie
 
 returns : tie.Need-returns
 returns c = no-start _ _ _ _ (omega arith)

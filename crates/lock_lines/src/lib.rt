@@ -1,9 +1,10 @@
-// Who a process is, as the queue of a lock says it in a line: its number, when it started, and the boot that it started in.
+// The lines of a lock's file, in which each process says who it is: its number, when it started, and the boot that it started in. For the crates
+// above: all of it is inner.
 ghost use mathlib.Core.Path.{_≡_};
 ghost use Prim.Native.Nat.{_≤_};
 ghost use lib.ListN.{length};
-ghost use Rattle.queue.specs.Stat.{afterName, startTime};
-ghost use Rattle.queue.specs.Line.{blankLine, fits, signed, isNow};
+ghost use Rattle.lock_lines.specs.Stat.{afterName, startTime};
+ghost use Rattle.lock_lines.specs.Line.{blankLine, fits, signed, isNow};
 
 // ---- what the system tells of a process
 

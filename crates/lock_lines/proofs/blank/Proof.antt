@@ -1,9 +1,9 @@
 -- `blank`: spaces and the line feed.
 use borrow.Author.Needs.{needs}
 use mathlib.Core.Path.{refl}
-use Rattle.queue.specs.Line.{blankLine}
-use Rattle.queue.proofs.blank.Statement.{statement}
-use Rattle.queue.proofs.blank.Tie as tie
+use Rattle.lock_lines.specs.Line.{blankLine}
+use Rattle.lock_lines.proofs.blank.Statement.{statement}
+use Rattle.lock_lines.proofs.blank.Tie as tie
 
 array-write-line : tie.Need-array-write-line
 array-write-line c = search needs

@@ -12,8 +12,8 @@ use Rattle.text.proofs.Tests.{both-true}
 use Rattle.text.specs.Numbers.{put}
 use Rattle.text.proofs.Put.{put-in, put-before, length-put}
 use Rattle.script.proofs.Words.{same-is}
-use Rattle.queue.specs.Stat.{afterLast, afterName, startTime}
-use Rattle.queue.specs.Line.{blankLine, fits, lineOf, isNow}
+use Rattle.lock_lines.specs.Stat.{afterLast, afterName, startTime}
+use Rattle.lock_lines.specs.Line.{blankLine, fits, lineOf, isNow}
 
 abbrev pub noEnd : List ℕ → Bool
 noEnd q = every (λ b. not (eqb b 41)) q

@@ -4,10 +4,10 @@ use mathlib.Core.Bool.{false}
 use mathlib.Core.List.{[], _∷_}
 use mathlib.Core.Path.{_≡_, sym, ap, _∙_}
 use Rattle.script.specs.Words.{word, same}
-use Rattle.queue.specs.Stat.{afterName}
-use Rattle.queue.proofs.Stats.{of-zombie, of-dead, of-living}
-use Rattle.queue.proofs.start_time.Statement.{statement}
-use Rattle.queue.proofs.start_time.Tie as tie
+use Rattle.lock_lines.specs.Stat.{afterName}
+use Rattle.lock_lines.proofs.Stats.{of-zombie, of-dead, of-living}
+use Rattle.lock_lines.proofs.start_time.Statement.{statement}
+use Rattle.lock_lines.proofs.start_time.Tie as tie
 
 state-is : (c : tie.After-word) → c .word .result .now ≡ word 1 (afterName (c .before .before .before .args .stat .now))
 state-is c = c .word .ensures ∙ ap (word 1) (c .before .after-name .ensures)

@@ -7,7 +7,7 @@ use lib.ListN.{length, take, drop}
 use borrow.Author.Tests.{lt-ltb, le-ltb, le-leb, lt-leb}
 use Rattle.text.specs.Numbers.{put}
 use Rattle.script.specs.Words.{same}
-use Rattle.queue.specs.Line.{blankLine, fits, lineOf, signed, isNow}
+use Rattle.lock_lines.specs.Line.{blankLine, fits, lineOf, signed, isNow}
 
 module _ (line pid start boot : List ℕ) where
   abbrev pub Signs : Bool → List ℕ → Type 0

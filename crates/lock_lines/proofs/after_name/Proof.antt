@@ -5,10 +5,10 @@ use mathlib.Core.Path.{_≡_, _∙_}
 use native.Mathlib.Omega.{arith}
 use lib.ListN.{length, drop, length-drop}
 use lib.Seq.{take-all}
-use Rattle.queue.specs.Stat.{afterLast, afterName}
-use Rattle.queue.proofs.Stats.{last-none, last-here, last-other, last-end}
-use Rattle.queue.proofs.after_name.Statement.{statement}
-use Rattle.queue.proofs.after_name.Tie as tie
+use Rattle.lock_lines.specs.Stat.{afterLast, afterName}
+use Rattle.lock_lines.proofs.Stats.{last-none, last-here, last-other, last-end}
+use Rattle.lock_lines.proofs.after_name.Statement.{statement}
+use Rattle.lock_lines.proofs.after_name.Tie as tie
 
 abbrev Inv-loop : tie.InvT-loop
 Inv-loop stat at₀ i₀ at i = (at ≤ length stat) × (afterLast (drop i stat) (drop at stat) ≡ afterName stat)
