@@ -12,14 +12,10 @@ pub not-both : (x : ℕ) → isHeld x ≡ true → isReleased x ≡ true → ⊥
 unfolding isHeld isReleased
 not-both x h r = let a = eqb-true x 1 h in let b = eqb-true x 2 r in omega arith
 
--- a free slot is neither held nor released
+-- a free slot is not held
 pub free-not-held : isHeld 0 ≡ false
 unfolding isHeld
 free-not-held = refl
-
-pub free-not-released : isReleased 0 ≡ false
-unfolding isReleased
-free-not-released = refl
 
 -- what was held and is released is released and not held, and it keeps what it kept
 pub freed-released : (x : ℕ) → isHeld x ≡ true → isReleased (freedState x) ≡ true

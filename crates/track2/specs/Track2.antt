@@ -4,7 +4,7 @@ use mathlib.Core.List.{List, [], _∷_}
 use Prim.Native.Nat.{ℕ}
 use Rattle.reasons.specs.Reasons.{Outcome}
 use Rattle.chars.specs.Reading.{Format}
-use Rattle.bits.specs.Reading.{Track, readRule, readBytes}
+use Rattle.bits.specs.Reading.{Track, readRule}
 
 -- "four data bits", byte "48 + number", start "bits 11010", end "15", "If the 39th character .. isn't the end sentinel"
 abbrev pub track2 : Format
@@ -14,7 +14,3 @@ track2 =
 -- the call, with s lent, a bit count and n bytes of output: "output under 37 bytes is 1; then 7", then the reading either way round
 abbrev pub track2Rule : List ℕ → ℕ → ℕ → Outcome Track
 track2Rule s bits n = readRule track2 s bits n
-
--- the output after it
-abbrev pub track2Bytes : List ℕ → ℕ → List ℕ → List ℕ
-track2Bytes s bits out = readBytes track2 s bits out

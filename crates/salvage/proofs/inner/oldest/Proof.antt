@@ -3,7 +3,7 @@ use mathlib.Core.Bool.{cond}
 use mathlib.Core.Path.{_≡_, _∙_, ap}
 use native.Mathlib.Omega.{arith}
 use Rattle.slots.specs.Journal.{slotsOf}
-use Rattle.salvage.specs.Whole.{lower, agrees, heldIn, lowest}
+use Rattle.salvage.specs.Whole.{agrees, heldIn, lowest}
 use Rattle.remains.specs.declared.Slot.{Slot}
 use Rattle.remains.specs.Slot.{toldAt}
 use Rattle.salvage.proofs.Polls.{lowest-none, lowest-more}
