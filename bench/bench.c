@@ -21,7 +21,7 @@ static door *const by_table[3] = {library_call, pairs_call, nothing_call};
 
 static struct made made;
 static struct lent lent;
-static uint8_t space[BUFFERS][LONGEST];
+static _Alignas(uint64_t) uint8_t space[BUFFERS][LONGEST];
 static int line;
 static unsigned held; /* records, in a row that is a whole walk */
 
@@ -231,6 +231,36 @@ static void range_rows(unsigned records)
               "all the acquirer's records fit, each narrower than the one before it");
 }
 
+/* A hot list for 16 digits, of the card's number and those behind it; or of the latter
+ * alone. No number takes more looks to find than the first one. */
+static void lend_hot_list(int buffer, unsigned numbers, bool listed)
+{
+    uint64_t first = UINT64_C(4111111111111111) + !listed;
+    made.r.hot_length = 16;
+    made.r.n[buffer] = 8 * (size_t)numbers;
+    for (unsigned i = 0; i < numbers; i++)
+        put_number(made.bytes[buffer] + 8 * (size_t)i, 8, first + i);
+}
+
+static void hot_row(const char *name, unsigned numbers, bool listed, const char *what)
+{
+    start(HOT_FIND);
+    lend_hot_list(0, numbers, listed);
+    lend_text(1, pan);
+    printf("input %s %u %s, %s\n", name, numbers, pan, what);
+    row(name, numbers);
+}
+
+static void hot_rows(void)
+{
+    static const unsigned numbers[] = {1, 8192};
+    hot_row("hot_find.empty", 0, false, "and an empty list");
+    for (int i = 0; i < 2; i++) {
+        hot_row("hot_find.listed", numbers[i], true, "the first number of the list");
+        hot_row("hot_find.unlisted", numbers[i], false, "below all numbers of the list");
+    }
+}
+
 /* A journal that has wrapped, its newest records held, the others released. */
 static uint32_t lend_journal(int buffer, unsigned slots, unsigned newer)
 {
@@ -337,14 +367,20 @@ static void ledger_rows(void)
     ledger_row("ledger_take.refused", 1001, 2, "released");
 }
 
-static void swipe_row(const char *name, const struct track *t, bool reversed, unsigned slots)
+/* A swipe of the card, which isn't on the hot list. */
+static void swipe_row(const char *name, const struct track *t, bool reversed, unsigned slots,
+                      unsigned numbers)
 {
     start(t == &track1 ? SWIPE1 : SWIPE);
     lend_track(t, reversed);
     lend_table(2, 16);
-    made.r.n[3] = t->most;
-    lend_journal(4, slots, slots / 2);
-    print_journal(name, slots, "; the full track, the 16 records, amount 250");
+    lend_hot_list(3, numbers, false);
+    made.r.n[4] = t->most;
+    lend_journal(5, slots, slots / 2);
+    char rest[80];
+    snprintf(rest, sizeof rest, "; the full track, the 16 records, a hot list of %u numbers, "
+             "amount 250", numbers);
+    print_journal(name, slots, rest);
     row(name, slots);
 }
 
@@ -358,10 +394,10 @@ static void journal_rows(unsigned slots)
     journal_row("walk_start", WALK_START, slots);
     journal_row("walk_step", WALK_STEP, slots);
     journal_row("journal_survey", JOURNAL_SURVEY, slots);
-    swipe_row("swipe", &track2, false, slots);
-    swipe_row("swipe.reversed", &track2, true, slots);
-    swipe_row("swipe1", &track1, false, slots);
-    swipe_row("swipe1.reversed", &track1, true, slots);
+    swipe_row("swipe", &track2, false, slots, 0);
+    swipe_row("swipe.reversed", &track2, true, slots, 0);
+    swipe_row("swipe1", &track1, false, slots, 0);
+    swipe_row("swipe1.reversed", &track1, true, slots, 0);
 }
 
 int main(void)
@@ -373,8 +409,10 @@ int main(void)
     ledger_rows();
     for (int i = 0; i < 5; i++)
         range_rows(records[i]);
+    hot_rows();
     for (int i = 0; i < 5; i++)
         journal_rows(slots[i]);
+    swipe_row("swipe.hot_list", &track2, false, 16, 8192);
     walk_rows(16);
     walk_rows(2048);
     return 0;

@@ -19,7 +19,7 @@ NOTES = {}
 
 LIBRARY, PLAIN, NOTHING = range(3)
 EMPTY_CALL = 2  # the instructions of a call that does nothing
-SHOWN = {0, 16, 2048, 4096}  # sizes in the first table
+SHOWN = {0, 1, 16, 2048, 4096, 8192}  # sizes in the first table
 REFUSED = {"ledger_take.refused": "6"}  # rows whose call is refused, and the reason
 GROWING = ["range_find", "range_find.all_fit", "journal_book", "journal_release", "journal_tell",
            "swipe"]
@@ -56,11 +56,11 @@ def read_rows(folder):
     counts = {int(words[1]): int(words[2]) for words in counted}
     lines = read(folder, "rows")
     rows = [Row(line.split(), counts) for line in lines if line.startswith("row ")]
-    inputs = {}
+    inputs = {}  # of each name the first: the others have another size
     for line in lines:
         if line.startswith("input "):
-            _, name, size, text = line.split(" ", 3)
-            inputs[name, int(size)] = text.strip()
+            _, name, _, text = line.split(" ", 3)
+            inputs.setdefault(name, text.strip())
     return rows, inputs
 
 
@@ -193,12 +193,12 @@ qemu-user (bench/count.c): the same number on every machine, and on every run. A
 from its first instruction to its return, what it calls included; what the program around it
 spends is measured by calls that do nothing, and taken off. Beside the library stands plain C
 for the same rules, tests/reference.c at -O3, in the same program on the same inputs. It reads a
-stripe bit by bit. In the rows named same_table plain C is tests/reference.c with the library's
-table in it, the one of request E9, and nothing else changed (bench/pairs.c): it reads the
-characters of track 2 two at a look of ten bits. bench/run checks first that it gives what
-tests/reference.c gives, on the tests' cases. Instructions are not time: a division counts as
-one. Of loops only the survey's has a division by a variable, one for each slot, on both sides; a
-step of a walk has two.
+stripe bit by bit, and finds a card in a hot list by the C library's bsearch. In the rows named
+same_table plain C is tests/reference.c with the library's table in it, the one of request E9, and
+nothing else changed (bench/pairs.c): it reads the characters of track 2 two at a look of ten
+bits. bench/run checks first that it gives what tests/reference.c gives, on the tests' cases.
+Instructions are not time: a division counts as one. Of loops only the survey's has a division by
+a variable, one for each slot, on both sides; a step of a walk has two.
 """
 
 
@@ -219,8 +219,7 @@ def page(folder, rows, inputs):
            "page.\n")
     yield from stack_table(rows)
     yield "\n## Inputs\n"
-    yield from table(["Call", "Input"], ([name, text] for (name, size), text in inputs.items()
-                                         if size in (0, 16)))
+    yield from table(["Call", "Input"], ([name, text] for name, text in inputs.items()))
 
 
 def write(path, lines):

@@ -24,6 +24,9 @@ static const uint8_t acquirer[GW_RANGE_BYTES] = {
     0x00, 0x5a, 0x62, 0x02, 0x7f, 0xf0, 0xfa, 0x02, 7, 0, 13, 19,
 };
 
+/* The acquirer's hot list: the blocked cards of 16 digits, by rising number. */
+static const uint64_t blocked[] = {UINT64_C(4000000000000002), UINT64_C(5500000000000004)};
+
 /* The bits of ;4111111111111111=2512101? and its LRC, 8: 135 of them, as the
  * reading head gives them. */
 static const uint8_t stream[] = {
@@ -45,8 +48,8 @@ static uint32_t swipe(struct store *s, uint32_t amount, uint32_t clock, uint32_t
 {
     uint8_t scratch[GW_TRACK_BYTES];
     uint32_t refusal = gw_swipe(stream, sizeof stream, 135, acquirer, 0, acquirer, sizeof acquirer,
-                                amount, clock, scratch, sizeof scratch, s->journal,
-                                store_bytes(s), serial);
+                                blocked, sizeof blocked / sizeof blocked[0], 16, amount, clock,
+                                scratch, sizeof scratch, s->journal, store_bytes(s), serial);
     if (!refusal)
         kept(store_booked(s, *serial));
     return refusal;

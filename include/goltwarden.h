@@ -18,10 +18,11 @@
  * WHAT THE CALLER OWES
  *
  * - A lent buffer is a pointer and a count of bytes; that many bytes can be
- *   read, and written where the pointer isn't const. Any count is allowed,
- *   and 0 too.
- * - No pointer is NULL. For a buffer of 0 bytes pass any other address: nothing
- *   is read or written there. Pointers to numbers are aligned as their type asks.
+ *   read, and written where the pointer isn't const. A lent hot list is a pointer
+ *   and a count of 64-bit numbers. Any count is allowed, and 0 too.
+ * - No pointer is NULL. For a buffer of 0 bytes or an empty list pass any other
+ *   address: nothing is read or written there. Pointers to numbers are aligned as
+ *   their type asks, an empty list's too.
  * - What a call writes (a buffer or number whose pointer isn't const) overlaps
  *   nothing else lent to that call.
  * - No other thread writes what a call reads, or touches what it writes, while
@@ -75,7 +76,7 @@ extern "C" {
 #endif
 
 /* The version of this interface, as gw_version() answers it. */
-#define GW_VERSION 5
+#define GW_VERSION 6
 
 /* The numbered reasons. */
 enum gw_reason {
@@ -99,7 +100,9 @@ enum gw_reason {
     GW_ZERO_AMOUNT = 17,    /* amount 0 */
     GW_JOURNAL_FULL = 18,   /* journal full */
     GW_SERIALS_USED_UP = 19, /* serials used up */
-    GW_NO_SERIAL = 20       /* serial not there */
+    GW_NO_SERIAL = 20,      /* serial not there */
+    GW_BAD_HOT_LIST = 21,   /* hot list not rising or too long, or PAN length or a number wrong */
+    GW_LISTED_CARD = 22     /* card on the hot list */
 };
 
 /* Sizes a caller needs. */
@@ -108,6 +111,7 @@ enum gw_reason {
 #define GW_TRACK_BITS 4096       /* the most bits a stream has */
 #define GW_RANGE_BYTES 16        /* one record of a range table */
 #define GW_RANGE_TABLE_BYTES 65536 /* the longest range table */
+#define GW_HOT_NUMBERS 8192      /* the most numbers of a hot list */
 #define GW_SLOT_BYTES 32         /* one slot of a journal */
 #define GW_JOURNAL_SLOTS 2048    /* the most slots of a journal */
 
@@ -136,7 +140,7 @@ uint32_t gw_luhn_test(const uint8_t *text, size_t text_n);
  * Order: 2 unless 1 to 39 bytes; 3 unless all digits. */
 uint32_t gw_luhn_make(const uint8_t *body, size_t body_n, uint8_t *digit);
 
-/* ---- Card numbers, masking and ranges ----------------------------------- */
+/* ---- Card numbers: masking, ranges, the hot list ------------------------ */
 
 /* Write the masked text of a PAN, as long as the PAN, to the output's first
  * bytes: first six digits, '*' for each hidden one, last four. Output bytes
@@ -161,6 +165,20 @@ uint32_t gw_range_find(const uint8_t *site, size_t site_n,
                        const uint8_t *acquirer, size_t acquirer_n,
                        const uint8_t *pan, size_t pan_n,
                        uint32_t *table, uint32_t *at);
+
+/* Ask whether a card is blocked. A hot list is a run of numbers that rise strictly,
+ * at most 8,192 of them, beside one PAN length for the whole list. A PAN is listed
+ * exactly when it has that length and its digits, as a number, stand in the list:
+ * *listed receives 1 if it is listed, 0 if not. An empty list blocks nothing; its
+ * `length` is 13 to 19 too. Each call checks the whole list, in one pass, and then
+ * looks at 14 of its numbers at most to find the PAN's.
+ * Order: 21 unless `length` is 13 to 19, there are at most 8,192 numbers, each above
+ * the one before it and each under 10 to the power of `length`; 2 unless the PAN has
+ * 13 to 19 bytes; 3 unless all digits.
+ * A list with one fault makes every swipe answer 21. So ask about a new list before it
+ * takes the place of the old one: with a PAN of 0 bytes a list that is right answers 2. */
+uint32_t gw_hot_find(const uint64_t *list, size_t list_n, uint32_t length,
+                     const uint8_t *pan, size_t pan_n, uint32_t *listed);
 
 /* ---- Track 2 ------------------------------------------------------------ */
 
@@ -354,17 +372,20 @@ uint32_t gw_journal_survey(const uint8_t *journal, size_t journal_n,
 
 /* One swipe, from the stripe to the journal: read track 2 either way round,
  * divide its characters, test the PAN by Luhn, find its record in the range tables
- * as gw_range_find does, and book the amount with that record's label. *serial
- * receives the serial booked.
+ * as gw_range_find does, ask for the PAN in the hot list as gw_hot_find does, and book
+ * the amount with that record's label. *serial receives the serial booked. Each swipe
+ * checks the whole list.
  * Order: 1 if the scratch has under 37 bytes; 16; 14 for the site's table, then
- * for the acquirer's; 17 if the amount is 0; 19; 18; then the reading's
- * refusals (7 to 13); 6; 4 (Luhn); 15. A refusal leaves the journal as it was.
+ * for the acquirer's; 21 for the hot list; 17 if the amount is 0; 19; 18; then the
+ * reading's refusals (7 to 13); 6; 4 (Luhn); 15; 22 if the PAN is listed. A refusal
+ * leaves the journal as it was.
  * The scratch holds the card's characters while the call is under way. After
  * every answer but refusal 1 its first 37 bytes are zero; no others change, and
  * refusal 1 changes none. */
 uint32_t gw_swipe(const uint8_t *stream, size_t stream_n, uint64_t bits,
                   const uint8_t *site, size_t site_n,
                   const uint8_t *acquirer, size_t acquirer_n,
+                  const uint64_t *hot, size_t hot_n, uint32_t hot_length,
                   uint32_t amount, uint32_t clock,
                   uint8_t *scratch, size_t scratch_n,
                   uint8_t *journal, size_t journal_n,
@@ -376,6 +397,7 @@ uint32_t gw_swipe(const uint8_t *stream, size_t stream_n, uint64_t bits,
 uint32_t gw_swipe1(const uint8_t *stream, size_t stream_n, uint64_t bits,
                    const uint8_t *site, size_t site_n,
                    const uint8_t *acquirer, size_t acquirer_n,
+                   const uint64_t *hot, size_t hot_n, uint32_t hot_length,
                    uint32_t amount, uint32_t clock,
                    uint8_t *scratch, size_t scratch_n,
                    uint8_t *journal, size_t journal_n,

@@ -152,12 +152,15 @@ static void make_luhn_body(struct made *m)
     spoil_one_in(4, m->bytes[0], &m->r.n[0]);
 }
 
+/* Some begin with zeros: their numbers fit shorter PANs too. */
 static void make_pan(uint8_t *pan, size_t *n)
 {
     *n = one_in(4) ? length_around(13, 19) : between(13, 19);
-    fill_luhn(pan, *n);
-    if (one_in(6))
-        fill_digits(pan, *n);
+    fill_digits(pan, *n);
+    if (one_in(8))
+        memset(pan, '0', below((uint32_t)*n + 1));
+    if (!one_in(6))
+        end_by_luhn(pan, *n);
     spoil_one_in(6, pan, n);
 }
 
@@ -170,11 +173,12 @@ static void make_mask(struct made *m)
 
 /* ---- Range tables ------------------------------------------------------- */
 
-static uint32_t first_eight(const uint8_t *pan, size_t n)
+/* The number of a PAN's first digits, at most so many. */
+static uint64_t first_digits(const uint8_t *pan, size_t n, size_t most)
 {
-    uint32_t v = 0;
-    for (size_t i = 0; i < 8 && i < n; i++)
-        v = 10 * v + (uint32_t)(pan[i] - '0');
+    uint64_t v = 0;
+    for (size_t i = 0; i < most && i < n; i++)
+        v = 10 * v + (uint64_t)(pan[i] - '0');
     return v;
 }
 
@@ -272,7 +276,7 @@ static size_t table_length(void)
  * the PAN. */
 static void make_table(uint8_t *table, size_t *n, const uint8_t *pan, size_t pan_n)
 {
-    uint32_t v = first_eight(pan, pan_n);
+    uint32_t v = (uint32_t)first_digits(pan, pan_n, 8);
     *n = table_length();
     bool crowded = one_in(2);
     struct crowd c = draw_crowd(*n);
@@ -292,6 +296,108 @@ static void make_range(struct made *m)
     make_pan(m->bytes[2], &m->r.n[2]);
     for (int i = 0; i < 2; i++)
         make_table(m->bytes[i], &m->r.n[i], m->bytes[2], m->r.n[2]);
+}
+
+/* ---- Hot lists ---------------------------------------------------------- */
+
+enum { FEW_NUMBERS = 100, MOST_NUMBERS = 8192 };
+
+/* The PAN's own length, mostly; else another one, or one outside 13 to 19. */
+static uint32_t draw_hot_length(size_t pan_n)
+{
+    static const uint32_t outside[] = {0, 12, 20, 256 + 16, UINT32_MAX};
+    if (one_in(16))
+        return outside[below(5)];
+    return one_in(5) || pan_n < 13 || pan_n > 19 ? between(13, 19) : (uint32_t)pan_n;
+}
+
+/* The least number that is too large for a length; of one outside 12 to 19, for the nearest
+ * of these. */
+static uint64_t bound_of(uint32_t length)
+{
+    return ten_to(length < 12 ? 12 : length < 19 ? length : 19);
+}
+
+/* Few, mostly; or as many as there may be, one less or one more. */
+static size_t draw_hot_count(uint32_t many_one_in)
+{
+    if (one_in(many_one_in))
+        return one_in(2) ? MOST_NUMBERS : MOST_NUMBERS - 1 + 2 * below(2);
+    return one_in(16) ? between(6, FEW_NUMBERS) : below(6);
+}
+
+/* A place in a list: the first, the last, or any. */
+static size_t draw_place(size_t n)
+{
+    return one_in(3) ? 0 : one_in(2) ? n - 1 : below((uint32_t)n);
+}
+
+/* The longest step of so many that lead through this room; or all are 1. */
+static uint64_t draw_stride(uint64_t room, size_t steps)
+{
+    return steps == 0 || one_in(3) ? 1 : room / steps;
+}
+
+/* Rising numbers below a bound, v among them at a place, or as near to it as there is room
+ * for the others: answers where. */
+static size_t fill_rising(uint64_t *list, size_t n, size_t at, uint64_t v, uint64_t bound)
+{
+    uint64_t above = bound - 1 - v;
+    at = at < v ? at : (size_t)v;
+    at = n - 1 - at < above ? at : n - 1 - (size_t)above;
+    uint64_t down = draw_stride(v, at), up = draw_stride(above, n - 1 - at);
+    list[at] = v;
+    for (size_t i = at; i > 0; i--)
+        list[i - 1] = list[i] - 1 - draw() % down;
+    for (size_t i = at + 1; i < n; i++)
+        list[i] = list[i - 1] + 1 + draw() % up;
+    return at;
+}
+
+/* The same with v, or without it. */
+static void fill_list(uint64_t *list, size_t n, uint64_t v, uint64_t bound, bool with)
+{
+    size_t all = with ? n : n + 1;
+    size_t at = fill_rising(list, all, draw_place(all), v, bound);
+    if (!with)
+        memmove(list + at, list + at + 1, (n - at) * sizeof *list);
+}
+
+/* One pair that doesn't rise, or a last number that is too large. */
+static void spoil_list(uint64_t *list, size_t n, uint64_t bound)
+{
+    size_t at = n > 1 ? 1 + draw_place(n - 1) : 0;
+    uint64_t before = at ? list[at - 1] : 0;
+    switch (at ? below(4) : 2 + below(2)) {
+    case 0: list[at] = before; break;
+    case 1: list[at - 1] = list[at]; list[at] = before; break;
+    case 2: list[n - 1] = bound; break;
+    default: list[n - 1] = UINT64_MAX; break;
+    }
+}
+
+/* A list around a card's number. One in so many is long, and half of these have the number;
+ * of the others one in so many. */
+static void make_hot_list(struct made *m, int buffer, const uint8_t *pan, size_t pan_n,
+                          uint32_t many_one_in, uint32_t listed_one_in)
+{
+    static uint64_t list[MOST_NUMBERS + 2];
+    m->r.hot_length = draw_hot_length(pan_n);
+    uint64_t bound = bound_of(m->r.hot_length), v = first_digits(pan, pan_n, 19) % bound;
+    size_t n = draw_hot_count(many_one_in);
+    fill_list(list, n, v, bound, n > 0 && one_in(n > FEW_NUMBERS ? 2 : listed_one_in));
+    if (n > 0 && one_in(8))
+        list[n - 1] = bound - 1;
+    if (n > 0 && one_in(12))
+        spoil_list(list, n, bound);
+    m->r.n[buffer] = n * sizeof *list;
+    memcpy(m->bytes[buffer], list, m->r.n[buffer]);
+}
+
+static void make_hot_question(struct made *m)
+{
+    make_pan(m->bytes[1], &m->r.n[1]);
+    make_hot_list(m, 0, m->bytes[1], m->r.n[1], 40, 2);
 }
 
 /* ---- The tracks --------------------------------------------------------- */
@@ -899,16 +1005,19 @@ static void make_rest_of_swipe(struct made *m)
     size_t n = make_characters(t, chars), pan_at = t == &track1;
     make_payment(m);
     make_stream(m, t, chars, n);
+    const uint8_t *pan = chars + pan_at;
+    size_t pan_n = digits_of(pan, n - pan_at);
     for (int i = 1; i < 3; i++)
-        make_table(m->bytes[i], &m->r.n[i], chars + pan_at, digits_of(chars + pan_at, n - pan_at));
-    m->r.n[3] = one_in(12) ? below(t->most) : t->most + below(4);
-    fill_any(m->bytes[3], m->r.n[3]);
+        make_table(m->bytes[i], &m->r.n[i], pan, pan_n);
+    make_hot_list(m, 3, pan, pan_n, 60, 4);
+    m->r.n[4] = one_in(12) ? below(t->most) : t->most + below(4);
+    fill_any(m->bytes[4], m->r.n[4]);
 }
 
 static void make_swipe(struct made *m)
 {
     make_rest_of_swipe(m);
-    make_journal(m->bytes[4], &m->r.n[4], 12);
+    make_journal(m->bytes[5], &m->r.n[5], 12);
 }
 
 /* ---- Requests ----------------------------------------------------------- */
@@ -920,14 +1029,15 @@ static bool is_swipe(enum call call)
 
 int journal_buffer(enum call call)
 {
-    return is_swipe(call) ? 4 : call >= JOURNAL_BOOK ? 0 : -1;
+    return is_swipe(call) ? 5 : call >= JOURNAL_BOOK ? 0 : -1;
 }
 
 void make_request(struct made *m, enum call call)
 {
     static void (*const makers[CALLS])(struct made *) = {
         [LUHN_TEST] = make_luhn_test, [LUHN_MAKE] = make_luhn_body, [PAN_MASK] = make_mask,
-        [RANGE_FIND] = make_range, [TRACK2_READ] = make_track, [LAYOUT_READ] = make_layout,
+        [RANGE_FIND] = make_range, [HOT_FIND] = make_hot_question,
+        [TRACK2_READ] = make_track, [LAYOUT_READ] = make_layout,
         [TRACK1_READ] = make_track, [LAYOUT1_READ] = make_layout,
         [IBAN_TEST] = make_iban_test, [IBAN_MAKE] = make_iban_body,
         [CREDITOR_TEST] = make_creditor_test, [CREDITOR_MAKE] = make_creditor_body,

@@ -9,10 +9,10 @@
 
 enum { LONGEST = 65536 + 256 }; /* room for the longest buffer lent */
 
-/* A request and the bytes to be lent with it. */
+/* A request and the bytes to be lent with it, each buffer aligned for a hot list. */
 struct made {
     struct request r;
-    uint8_t bytes[BUFFERS][LONGEST];
+    _Alignas(uint64_t) uint8_t bytes[BUFFERS][LONGEST];
 };
 
 /* Start drawing for one case. */
@@ -29,7 +29,7 @@ void make_request(struct made *m, enum call call);
 void make_first_journal(struct made *m);
 
 /* Make the next request of a history, on the journal given in bytes[0] (of a
- * swipe bytes[4]); which call it is, is drawn. */
+ * swipe bytes[5]); which call it is, is drawn. */
 void make_next_request(struct made *m, const uint8_t *journal, size_t journal_n);
 
 /* The buffer in which a call is lent the journal, or -1. */

@@ -15,6 +15,7 @@
 #include <string.h>
 #include <unistd.h>
 #include "cases.h"
+#include "hots.h"
 #include "lent.h"
 #include "reached.h"
 #include "shapes.h"
@@ -25,8 +26,8 @@ enum {
 };
 
 /* How many buffers each call is lent. */
-static const int call_buffers[CALLS] = {0, 1, 1, 2, 3, 2, 1, 2, 1, 1, 2, 1, 1, 1, 2, 1, 1, 1,
-                                        1, 1, 1, 2, 5, 5};
+static const int call_buffers[CALLS] = {0, 1, 1, 2, 3, 2, 2, 1, 2, 1, 1, 2, 1, 1, 1, 2, 1, 1,
+                                        1, 1, 1, 1, 2, 6, 6};
 
 static uint64_t seed = 1;
 static uint64_t case_number;
@@ -49,9 +50,10 @@ static void print_request(void)
 {
     const struct request *r = &made.r;
     printf("gw_%s\n", call_names[r->call]);
-    printf("  bits %" PRIu64 ", serial %" PRIu32 ", amount %" PRIu32 ", clock %" PRIu32
-           ", label %u, taken %" PRIu32 ", total %" PRIu64 "\n", r->bits, r->serial, r->amount,
-           r->clock, r->label, r->taken, r->total);
+    printf("  bits %" PRIu64 ", PAN length of the hot list %" PRIu32 ", serial %" PRIu32
+           ", amount %" PRIu32 ", clock %" PRIu32 ", label %u, taken %" PRIu32 ", total %" PRIu64
+           "\n", r->bits, r->hot_length, r->serial, r->amount, r->clock, r->label, r->taken,
+           r->total);
     for (int b = 0; b < call_buffers[r->call]; b++)
         print_bytes("lent", b, made.bytes[b], r->n[b]);
 }
@@ -134,6 +136,7 @@ static bool compare(bool print)
     note_reached(&made.r, answers[REFERENCE]);
     note_shape(&made.r, &lent[REFERENCE], answers[REFERENCE]);
     note_tables(&made.r, &lent[REFERENCE], answers[REFERENCE]);
+    note_hot_list(&made.r, &lent[REFERENCE], answers[REFERENCE]);
     bool agree = same();
     if (!agree)
         printf("A CASE THAT DIFFERS\n");
@@ -180,15 +183,16 @@ static bool run_case(uint64_t number, bool print)
 
 /* ---- Running ------------------------------------------------------------ */
 
-/* What was reached; lengths, shapes and tables too, where cases enough were run for them.
- * All three are asked, so that each prints what is missing. */
+/* What was reached; lengths, shapes, tables and hot lists too, where cases enough were run
+ * for them. All four are asked, so that each prints what is missing. */
 static bool report(uint64_t cases)
 {
     uint64_t calls = print_reached();
     printf("%" PRIu64 " cases, %" PRIu64 " calls compared, seed %" PRIu64 ": no difference\n",
            cases, calls, seed);
     return refusals_reached()
-        && (cases < ENOUGH || (lengths_reached() & shapes_reached() & tables_reached()));
+        && (cases < ENOUGH || (lengths_reached() & shapes_reached() & tables_reached()
+                               & hot_lists_reached()));
 }
 
 static bool run_cases(uint64_t cases)

@@ -14,6 +14,12 @@ static uint32_t ledger_call(const struct request *r, struct lent *l)
     return gw_ledger_take(l->buffer[0], r->n[0], &l->word[0], &l->sum);
 }
 
+/* A lent buffer as a hot list. */
+static const uint64_t *numbers(const uint8_t *buffer)
+{
+    return (const uint64_t *)(const void *)buffer;
+}
+
 static uint32_t text_call(const struct request *r, struct lent *l)
 {
     uint8_t *const *b = l->buffer;
@@ -24,6 +30,8 @@ static uint32_t text_call(const struct request *r, struct lent *l)
     case LUHN_MAKE: return gw_luhn_make(b[0], n[0], &l->digit);
     case PAN_MASK: return gw_pan_mask(b[0], n[0], b[1], n[1]);
     case RANGE_FIND: return gw_range_find(b[0], n[0], b[1], n[1], b[2], n[2], &w[0], &w[1]);
+    case HOT_FIND:
+        return gw_hot_find(numbers(b[0]), n[0] / 8, r->hot_length, b[1], n[1], &w[0]);
     case TRACK2_READ: return gw_track2_read(b[0], n[0], r->bits, b[1], n[1], &w[0], &w[1]);
     case LAYOUT_READ: return gw_layout_read(b[0], n[0], &w[0], &w[1], &w[2], &w[3]);
     case TRACK1_READ: return gw_track1_read(b[0], n[0], r->bits, b[1], n[1], &w[0], &w[1]);
@@ -61,8 +69,8 @@ static uint32_t journal_call(const struct request *r, struct lent *l)
         return gw_journal_survey(b[0], n[0], b[1], n[1], &w[0]);
     default:
         return (r->call == SWIPE ? gw_swipe : gw_swipe1)(
-            b[0], n[0], r->bits, b[1], n[1], b[2], n[2], r->amount, r->clock,
-            b[3], n[3], b[4], n[4], &w[0]);
+            b[0], n[0], r->bits, b[1], n[1], b[2], n[2], numbers(b[3]), n[3] / 8, r->hot_length,
+            r->amount, r->clock, b[4], n[4], b[5], n[5], &w[0]);
     }
 }
 

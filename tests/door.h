@@ -8,21 +8,23 @@
 #include <stdint.h>
 
 enum call {
-    VERSION, LUHN_TEST, LUHN_MAKE, PAN_MASK, RANGE_FIND, TRACK2_READ, LAYOUT_READ,
+    VERSION, LUHN_TEST, LUHN_MAKE, PAN_MASK, RANGE_FIND, HOT_FIND, TRACK2_READ, LAYOUT_READ,
     TRACK1_READ, LAYOUT1_READ,
     IBAN_TEST, IBAN_MAKE, CREDITOR_TEST, CREDITOR_MAKE, LEDGER_TAKE,
     JOURNAL_BOOK, JOURNAL_RELEASE, JOURNAL_SHOW, JOURNAL_TELL, JOURNAL_WALK,
     WALK_START, WALK_STEP, JOURNAL_SURVEY, SWIPE, SWIPE1, CALLS
 };
 
-enum { BUFFERS = 5, WORDS = 5 };
+enum { BUFFERS = 6, WORDS = 5 };
 
 /* What goes in, the bytes of the lent buffers apart: the buffers stand in the
- * order in which the call takes them. */
+ * order in which the call takes them. A hot list is one of them, and its numbers stand
+ * there as in memory: it has 8 bytes a number, and is lent at a multiple of 8. */
 struct request {
     enum call call;
     size_t n[BUFFERS]; /* bytes of each lent buffer */
     uint64_t bits;
+    uint32_t hot_length; /* of the PANs on the hot list */
     uint32_t serial, amount, clock;
     uint16_t label;
     uint32_t taken; /* with the total, the host's ledger */

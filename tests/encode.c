@@ -15,6 +15,11 @@ uint32_t number_at(const uint8_t *s)
     return v;
 }
 
+uint64_t ten_to(uint32_t power)
+{
+    return power == 0 ? 1 : 10 * ten_to(power - 1);
+}
+
 const struct track track1 = {7, ' ', '%', '?', 76, '^'};
 const struct track track2 = {5, '0', ';', '?', 37, '='};
 

@@ -13,6 +13,9 @@ enum { SLOT = 32 };
 void put_number(uint8_t *s, unsigned bytes, uint64_t v);
 uint32_t number_at(const uint8_t *s);
 
+/* 10 to a power of at most 19. */
+uint64_t ten_to(uint32_t power);
+
 /* How a track is written. */
 struct track {
     unsigned width;           /* bits of a character, its parity bit the last */

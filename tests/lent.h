@@ -14,7 +14,8 @@ enum side { LIBRARY, REFERENCE, SIDES };
 /* Set the pages aside, once. */
 void open_pages(void);
 
-/* Lend a side a copy of the bytes, ending at a page that must not be touched. */
+/* Lend a side a copy of the bytes, ending at a page that must not be touched; so a hot
+ * list is aligned as its numbers ask. */
 uint8_t *lend(enum side side, int buffer, const uint8_t *bytes, size_t n);
 
 /* Whether the bytes before a lent buffer are as they were. */

@@ -3,23 +3,26 @@
 #include "cases.h"
 #include "reached.h"
 
-/* The numbers 0 to 20, and one place for any other, which no call may answer. */
-enum { REASONS = 21, OTHER = REASONS, NUMBERS, BITS = 4100 };
+/* The numbers 0 to 22, and one place for any other, which no call may answer. */
+enum { REASONS = 23, OTHER = REASONS, NUMBERS, BITS = 4100 };
 
 const char *const call_names[CALLS] = {
-    "version", "luhn_test", "luhn_make", "pan_mask", "range_find", "track2_read", "layout_read",
-    "track1_read", "layout1_read", "iban_test", "iban_make", "creditor_test", "creditor_make",
-    "ledger_take", "journal_book", "journal_release", "journal_show", "journal_tell",
-    "journal_walk", "walk_start", "walk_step", "journal_survey", "swipe", "swipe1",
+    "version", "luhn_test", "luhn_make", "pan_mask", "range_find", "hot_find", "track2_read",
+    "layout_read", "track1_read", "layout1_read", "iban_test", "iban_make", "creditor_test",
+    "creditor_make", "ledger_take", "journal_book", "journal_release", "journal_show",
+    "journal_tell", "journal_walk", "walk_start", "walk_step", "journal_survey", "swipe",
+    "swipe1",
 };
 
 /* The reasons that the paper gives for each call, a bit for each number. */
 #define R(n) (UINT32_C(1) << (n))
 #define READING (R(7) | R(8) | R(9) | R(10) | R(11) | R(12) | R(13))
-#define SWIPING (R(1) | R(4) | R(6) | READING | R(14) | R(15) | R(16) | R(17) | R(18) | R(19))
+#define SWIPING (R(1) | R(4) | R(6) | READING | R(14) | R(15) | R(16) | R(17) | R(18) | R(19) \
+                 | R(21) | R(22))
 static const uint32_t call_reasons[CALLS] = {
     [LUHN_TEST] = R(2) | R(3) | R(4), [LUHN_MAKE] = R(2) | R(3),
     [PAN_MASK] = R(1) | R(2) | R(3), [RANGE_FIND] = R(2) | R(3) | R(14) | R(15),
+    [HOT_FIND] = R(2) | R(3) | R(21),
     [TRACK2_READ] = R(1) | READING, [LAYOUT_READ] = R(6),
     [TRACK1_READ] = R(1) | READING, [LAYOUT1_READ] = R(6),
     [IBAN_TEST] = R(2) | R(3) | R(4) | R(5) | R(6), [IBAN_MAKE] = R(2) | R(3) | R(5) | R(6),
@@ -45,6 +48,7 @@ static const struct lengths call_lengths[] = {
     {RANGE_FIND, 0, 0, 66, 1}, {RANGE_FIND, 0, 65520, 65552, 16}, {RANGE_FIND, 0, 65535, 65537, 1},
     {RANGE_FIND, 1, 0, 66, 1}, {RANGE_FIND, 1, 65520, 65552, 16}, {RANGE_FIND, 1, 65535, 65537, 1},
     {RANGE_FIND, 0, 256, 1024, 16}, {RANGE_FIND, 1, 256, 1024, 16}, {RANGE_FIND, 2, 0, 22, 1},
+    {HOT_FIND, 0, 0, 800, 8}, {HOT_FIND, 0, 65528, 65544, 8}, {HOT_FIND, 1, 0, 22, 1},
     {TRACK2_READ, 0, 0, 39, 1}, {TRACK2_READ, 0, 511, 513, 1}, {TRACK2_READ, 1, 0, 44, 1},
     {LAYOUT_READ, 0, 0, 37, 1},
     {TRACK1_READ, 0, 0, 80, 1}, {TRACK1_READ, 0, 511, 513, 1}, {TRACK1_READ, 1, 0, 83, 1},
@@ -63,10 +67,12 @@ static const struct lengths call_lengths[] = {
     {JOURNAL_SURVEY, 1, 0, 42, 1}, {JOURNAL_SURVEY, 1, 2047, 2049, 1},
     {SWIPE, 1, 0, 66, 1}, {SWIPE, 1, 65520, 65552, 16}, {SWIPE, 2, 65535, 65537, 1},
     {SWIPE, 1, 256, 1024, 16}, {SWIPE, 2, 256, 1024, 16},
-    {SWIPE, 3, 0, 40, 1}, {SWIPE, 4, 0, 65, 1}, {SWIPE, 4, 65504, 65568, 32},
+    {SWIPE, 3, 0, 800, 8}, {SWIPE, 3, 65528, 65544, 8},
+    {SWIPE, 4, 0, 40, 1}, {SWIPE, 5, 0, 65, 1}, {SWIPE, 5, 65504, 65568, 32},
     {SWIPE1, 1, 0, 66, 1}, {SWIPE1, 1, 65520, 65552, 16}, {SWIPE1, 2, 65535, 65537, 1},
     {SWIPE1, 1, 256, 1024, 16}, {SWIPE1, 2, 256, 1024, 16},
-    {SWIPE1, 3, 0, 79, 1}, {SWIPE1, 4, 0, 65, 1}, {SWIPE1, 4, 65504, 65568, 32},
+    {SWIPE1, 3, 0, 800, 8}, {SWIPE1, 3, 65528, 65544, 8},
+    {SWIPE1, 4, 0, 79, 1}, {SWIPE1, 5, 0, 65, 1}, {SWIPE1, 5, 65504, 65568, 32},
 };
 
 static uint64_t reached[CALLS][NUMBERS];

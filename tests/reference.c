@@ -1,6 +1,6 @@
 /*
- * A second implementation of document 01, and of requests E1, E4 and E6 of document 02,
- * in plain C, written from the paper alone. The tests hold the library against it,
+ * A second implementation of document 01, and of requests E1, E4, E6 and E8 of document
+ * 02, in plain C, written from the paper alone. The tests hold the library against it,
  * call by call and byte by byte; the benchmark runs it as the plain C beside the
  * library.
  *
@@ -13,6 +13,7 @@
  * where it is track 2.
  */
 #include <stdbool.h>
+#include <stdlib.h>
 #include <string.h>
 #include "goltwarden.h"
 
@@ -31,7 +32,7 @@
 
 uint32_t gw_version(void)
 {
-    return 5;
+    return 6;
 }
 
 /* ---- Bytes and numbers -------------------------------------------------- */
@@ -93,11 +94,12 @@ static void put_u32(uint8_t *s, uint32_t v)
     put_u16(s + 2, (uint16_t)(v >> 16));
 }
 
-static uint32_t decimal(const uint8_t *s, size_t n)
+/* Of at most 19 digits. */
+static uint64_t decimal(const uint8_t *s, size_t n)
 {
-    uint32_t v = 0;
+    uint64_t v = 0;
     for (size_t i = 0; i < n; i++)
-        v = 10 * v + (s[i] - '0');
+        v = 10 * v + (uint64_t)(s[i] - '0');
     return v;
 }
 
@@ -195,7 +197,7 @@ static bool narrower(uint32_t width, uint32_t best)
  * (95). */
 static size_t narrowest_fit(const uint8_t *table, size_t n, const uint8_t *pan, size_t pan_n)
 {
-    uint32_t first_eight = SLIP(11, decimal(pan, 8), decimal(pan, 6) * 100);
+    uint32_t first_eight = (uint32_t)SLIP(11, decimal(pan, 8), decimal(pan, 6) * 100);
     uint32_t width, best_width = UINT32_MAX;
     size_t best = n;
     for (size_t at = 0; at < n; at += 16) {
@@ -226,7 +228,7 @@ struct found {
 static uint32_t first_fit(const uint8_t *table, const uint8_t *pan, size_t pan_n)
 {
     uint32_t at = 0, width;
-    while (!fits(table + at, decimal(pan, 8), pan_n, &width))
+    while (!fits(table + at, (uint32_t)decimal(pan, 8), pan_n, &width))
         at += 16;
     return at;
 }
@@ -284,6 +286,96 @@ uint32_t gw_range_find(const uint8_t *site, size_t site_n,
         return refusal;
     *table = f.table;
     *at = f.at;
+    return 0;
+}
+
+/* ---- The hot list ------------------------------------------------------- */
+
+struct hot_list {
+    const uint64_t *numbers;
+    size_t n;
+    uint32_t length; /* of every PAN in it */
+};
+
+/* 10 to the power of a PAN length: the least number that is too large for it. */
+static uint64_t too_large(uint32_t length)
+{
+    uint64_t v = UINT64_C(10000000000000);
+    for (uint32_t digits = 13; digits < length; digits++)
+        v *= 10;
+    return v;
+}
+
+static bool is_below(uint64_t a, uint64_t b)
+{
+    return SLIP(100, SLIP(101, a < b, (int64_t)a < (int64_t)b), a <= b);
+}
+
+/* Wrong references take equal neighbours (100), compare as signed numbers (101), or leave
+ * out the first pair (102) or the last one (103). */
+static bool rises(const uint64_t *numbers, size_t n)
+{
+    for (size_t i = SLIP(102, 1, 2); i + SLIP(103, 0, 1) < n; i++)
+        if (!is_below(numbers[i - 1], numbers[i]))
+            return false;
+    return true;
+}
+
+/* Of numbers that rise the last is the largest. Wrong references go by the first (104), take
+ * 10 to the power of the length (105) or all numbers of one digit more (106), or take any
+ * number where the length is 19 (107). */
+static bool has_too_large(const struct hot_list *h)
+{
+    if (h->n == 0 || (WRONG == 107 && h->length == 19))
+        return false;
+    uint64_t largest = h->numbers[SLIP(104, h->n - 1, 0)];
+    uint64_t bound = too_large(SLIP(106, h->length, h->length < 19 ? h->length + 1 : 19));
+    return SLIP(105, largest >= bound, largest > bound);
+}
+
+static bool bad_hot_list(const struct hot_list *h)
+{
+    if (!within(SLIP(108, 13, 12), SLIP(109, 19, 20), h->length))
+        return SLIP(110, true, h->n > 0); /* 110: an empty list may have any length */
+    return h->n > SLIP(111, SLIP(112, 8192, 8191), 8193) || !rises(h->numbers, h->n)
+        || has_too_large(h);
+}
+
+static int in_order(const void *a, const void *b)
+{
+    const uint64_t *one = a, *other = b;
+    return is_below(*other, *one) - is_below(*one, *other);
+}
+
+/* Wrong references list a PAN of any length by its number (113), never find the first number
+ * (114) or the last (115), or miss the first of 8,192, as a search of 13 looks would (116). */
+static bool is_listed(const struct hot_list *h, const uint8_t *pan, size_t pan_n)
+{
+    uint64_t number = decimal(pan, pan_n);
+    const uint64_t *from = h->numbers + SLIP(114, 0, h->n > 0);
+    const uint64_t *end = h->numbers + h->n - SLIP(115, 0, h->n > 0);
+    if (SLIP(113, pan_n != h->length, false))
+        return false;
+    if (WRONG == 116 && h->n == 8192 && number == from[0])
+        return false;
+    return bsearch(&number, from, (size_t)(end - from), sizeof number, in_order) != NULL;
+}
+
+uint32_t gw_hot_find(const uint64_t *list, size_t list_n, uint32_t length,
+                     const uint8_t *pan, size_t pan_n, uint32_t *listed)
+{
+    struct hot_list h = {list, list_n, length};
+    uint32_t refusal = pan_refusal(pan, pan_n);
+    if (WRONG == 117)
+        *listed = 0; /* a number changed, though the call may refuse */
+    if (WRONG == 118 && refusal)
+        return refusal;
+    if (bad_hot_list(&h))
+        return 21;
+    if (refusal)
+        return refusal;
+    /* In a wrong reference *listed stays where the card isn't listed (119). */
+    *listed = is_listed(&h, pan, pan_n) ? 1 : SLIP(119, 0, *listed);
     return 0;
 }
 
@@ -609,8 +701,8 @@ static unsigned moved_remainder(const uint8_t *text, size_t n)
 
 static bool pair_passes(const uint8_t *text, size_t n)
 {
-    uint32_t pair = decimal(text + 2, 2);
-    return within(SLIP(22, 2, 0), SLIP(23, 98, 99), pair) && moved_remainder(text, n) == 1;
+    return within(SLIP(22, 2, 0), SLIP(23, 98, 99), decimal(text + 2, 2))
+        && moved_remainder(text, n) == 1;
 }
 
 /* 98 less the remainder with 00 in the check places. */
@@ -1013,10 +1105,12 @@ uint32_t gw_journal_survey(const uint8_t *journal, size_t journal_n,
 struct given {
     struct stripe stripe;
     struct tables tables;
+    struct hot_list hot;
     uint32_t amount, clock;
 };
 
-/* What stands before the reading: 16, 14, 17, 19, 18. */
+/* What stands before the reading: 16, 14, 21, 17, 19, 18. In wrong references 21 stands
+ * before 14 (120), after 17 (121) or nowhere (122). */
 static uint32_t before_reading(const uint8_t *journal, size_t n, const struct given *g,
                                struct view *v)
 {
@@ -1024,15 +1118,20 @@ static uint32_t before_reading(const uint8_t *journal, size_t n, const struct gi
         return 17;
     if (!look(journal, n, v))
         return 16;
+    if (WRONG == 120 && bad_hot_list(&g->hot))
+        return 21;
     if (bad_table(g->tables.site_n) || bad_table(g->tables.acquirer_n))
         return 14;
+    if (SLIP(121, SLIP(122, true, false), g->amount > 0) && bad_hot_list(&g->hot))
+        return 21;
     if (g->amount == 0)
         return 17;
     return no_room(v);
 }
 
-/* The reading's refusals, 6, 4, 15; or where the PAN stands in `chars`, in *l, and
- * its range in *f. */
+/* The reading's refusals, 6, 4, 15, 22; or where the PAN stands in `chars`, in *l, and
+ * its range in *f. In wrong references 22 stands before 4 (123) or before 15 (124), or a
+ * card on track 1 is never refused with it (125). */
 OVER_TRACK uint32_t read_card(const struct track *t, const struct given *g, uint8_t chars[MOST],
                               struct layout *l, struct found *f)
 {
@@ -1044,9 +1143,17 @@ OVER_TRACK uint32_t read_card(const struct track *t, const struct given *g, uint
     if (!read_layout(t, chars, count, l))
         return 6;
     l->pan_at = SLIP(62, l->pan_at, 0);
-    if (!luhn_passes(chars + l->pan_at, l->pan_n))
+    const uint8_t *pan = chars + l->pan_at;
+    if (WRONG == 123 && is_listed(&g->hot, pan, l->pan_n))
+        return 22;
+    if (!luhn_passes(pan, l->pan_n))
         return 4;
-    return look_up(&g->tables, chars + l->pan_at, l->pan_n, f);
+    if (WRONG == 124 && is_listed(&g->hot, pan, l->pan_n))
+        return 22;
+    refusal = look_up(&g->tables, pan, l->pan_n, f);
+    if (refusal)
+        return refusal;
+    return SLIP_ONE(125, is_listed(&g->hot, pan, l->pan_n), false) ? 22 : 0;
 }
 
 OVER_TRACK uint32_t swipe(const struct track *t, const struct given *g,
@@ -1076,26 +1183,28 @@ OVER_TRACK uint32_t swipe(const struct track *t, const struct given *g,
 uint32_t gw_swipe(const uint8_t *stream, size_t stream_n, uint64_t bits,
                   const uint8_t *site, size_t site_n,
                   const uint8_t *acquirer, size_t acquirer_n,
+                  const uint64_t *hot, size_t hot_n, uint32_t hot_length,
                   uint32_t amount, uint32_t clock,
                   uint8_t *scratch, size_t scratch_n,
                   uint8_t *journal, size_t journal_n,
                   uint32_t *serial)
 {
     struct given g = {{stream, stream_n, bits}, {site, site_n, acquirer, acquirer_n},
-                      amount, clock};
+                      {hot, hot_n, hot_length}, amount, clock};
     return swipe(&track2, &g, scratch, scratch_n, journal, journal_n, serial);
 }
 
 uint32_t gw_swipe1(const uint8_t *stream, size_t stream_n, uint64_t bits,
                    const uint8_t *site, size_t site_n,
                    const uint8_t *acquirer, size_t acquirer_n,
+                   const uint64_t *hot, size_t hot_n, uint32_t hot_length,
                    uint32_t amount, uint32_t clock,
                    uint8_t *scratch, size_t scratch_n,
                    uint8_t *journal, size_t journal_n,
                    uint32_t *serial)
 {
     struct given g = {{stream, stream_n, bits}, {site, site_n, acquirer, acquirer_n},
-                      amount, clock};
+                      {hot, hot_n, hot_length}, amount, clock};
     return swipe(&track1, &g, scratch, scratch_n, journal, journal_n, serial);
 }
 

@@ -1,5 +1,6 @@
 #include <stdio.h>
 #include "encode.h"
+#include "pans.h"
 #include "reached.h"
 #include "tables.h"
 
@@ -54,21 +55,6 @@ struct look {
     uint32_t table, at;
 };
 
-/* The card number of a swipe, read from its stripe once more. */
-static void read_pan(const struct request *r, const struct lent *l, struct look *k)
-{
-    static uint8_t chars[80];
-    struct request read = {.call = r->call == SWIPE ? TRACK2_READ : TRACK1_READ,
-                           .n = {r->n[0], sizeof chars}, .bits = r->bits};
-    struct lent lent = {.buffer = {l->buffer[0], chars}};
-    reference_call(&read, &lent);
-    uint8_t *pan = chars + (r->call == SWIPE1), *end = pan;
-    while (*end >= '0' && *end <= '9')
-        end++;
-    k->l.buffer[2] = pan;
-    k->r.n[2] = (size_t)(end - pan);
-}
-
 /* The look-up that a request is, or that a swipe makes; false if it finds nothing. */
 static bool look_up(const struct request *r, const struct lent *l, struct look *k)
 {
@@ -79,7 +65,7 @@ static bool look_up(const struct request *r, const struct lent *l, struct look *
             k->r.n[t] = r->n[t + 1];
             k->l.buffer[t] = l->buffer[t + 1];
         }
-        read_pan(r, l, k);
+        k->l.buffer[2] = read_pan(r, l, &k->r.n[2]);
     }
     k->r.call = RANGE_FIND;
     if (reference_call(&k->r, &k->l) != 0)

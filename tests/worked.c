@@ -1,8 +1,8 @@
 /*
  * The worked cases of document 01, known texts, cards of track 1 whose bits are
- * written out by hand, range tables whose records overlap, and messages to the host,
- * with the answers. tests/run runs them against the library, and against the reference
- * too: what judges the library is itself held to the paper's own examples.
+ * written out by hand, range tables whose records overlap, hot lists, and messages to
+ * the host, with the answers. tests/run runs them against the library, and against the
+ * reference too: what judges the library is itself held to the paper's own examples.
  */
 #include <inttypes.h>
 #include <stdbool.h>
@@ -271,6 +271,9 @@ static void journal(void)
     expect("at the last serial", gw_journal_book(slot, 32, pan, 16, 7, 250, 0, &serial), 19);
 }
 
+/* An empty hot list. */
+static const uint64_t none_blocked[1];
+
 /* W13's payment by the fleet card, either way round; a scratch too short before it. */
 static void swipe1(bool turned)
 {
@@ -281,10 +284,12 @@ static void swipe1(bool turned)
     put_range(acquirer, &(struct range){40000000, 49999999, 7, 13, 19});
     memset(scratch, 0x5a, 76);
     expect("a scratch of 75", gw_swipe1(s.bytes, sizeof s.bytes, s.bits, acquirer, 0, acquirer, 16,
-                                        250, 0, scratch, 75, slot, 32, &serial), 1);
+                                        none_blocked, 0, 16, 250, 0, scratch, 75, slot, 32,
+                                        &serial), 1);
     expect("it stays", scratch[0] == 0x5a && scratch[74] == 0x5a && serial == 0, 1);
     expect("a scratch of 76", gw_swipe1(s.bytes, sizeof s.bytes, s.bits, acquirer, 0, acquirer, 16,
-                                        250, 0, scratch, 76, slot, 32, &serial), 0);
+                                        none_blocked, 0, 16, 250, 0, scratch, 76, slot, 32,
+                                        &serial), 0);
     expect("it is zero", memcmp(scratch, zeros, 76) == 0, 1);
     expect("the swipe's serial", serial, 1);
     expect("the swipe's record", memcmp(slot, w13, 32) == 0, 1);
@@ -380,10 +385,11 @@ static void swipes_label(const struct tables *t, const uint8_t *label)
     uint8_t stream[32] = {0}, scratch[76], slots[64] = {0};
     uint32_t serial;
     put_track(&track2, stream, ";4111111111111111=2512101?");
-    expect(t->written, gw_swipe(stream, 17, 135, site, t->n[0], acquirer, t->n[1], 250, 0,
-                                scratch, 37, slots, 64, &serial), 0);
+    expect(t->written, gw_swipe(stream, 17, 135, site, t->n[0], acquirer, t->n[1], none_blocked, 0,
+                                16, 250, 0, scratch, 37, slots, 64, &serial), 0);
     expect(t->written, gw_swipe1(fleet.bytes, sizeof fleet.bytes, fleet.bits, site, t->n[0],
-                                 acquirer, t->n[1], 250, 0, scratch, 76, slots, 64, &serial), 0);
+                                 acquirer, t->n[1], none_blocked, 0, 16, 250, 0, scratch, 76,
+                                 slots, 64, &serial), 0);
     expect("the swipe's label", memcmp(slots + 12, label, 2) == 0, 1);
     expect("the label by track 1", memcmp(slots + 44, label, 2) == 0, 1);
 }
@@ -410,6 +416,166 @@ static void range_tables(void)
     expect("none fits", gw_range_find(none, n, none, n, bytes("4111111111111111"), 16, &table,
                                       &at), 15);
     expect("a refusal's numbers", table == 99 && at == 99, 1);
+}
+
+/* ---- Hot lists ---------------------------------------------------------- */
+
+/* W1's card: its PAN, and its number. */
+#define W1 "4111111111111111"
+#define CARD UINT64_C(4111111111111111)
+
+/* The least number too large for 16 digits, and for 19. */
+#define SIXTEEN UINT64_C(10000000000000000)
+#define NINETEEN UINT64_C(10000000000000000000)
+
+enum { KEPT = 99 }; /* what stands behind a pointer before a call */
+
+/* A card asked for in a list: the answer, and yes (1) or no (0), or what was there. */
+struct question {
+    const char *what;
+    uint64_t list[3];
+    size_t n;
+    uint32_t length;
+    const char *pan;
+    uint32_t answer, listed;
+};
+
+static const struct question questions[] = {
+    {"an empty list", {0}, 0, 16, W1, 0, 0},
+    {"the only one", {CARD}, 1, 16, W1, 0, 1},
+    {"the first of three", {CARD, CARD + 1, CARD + 9}, 3, 16, W1, 0, 1},
+    {"the second of three", {0, CARD, CARD + 1}, 3, 16, W1, 0, 1},
+    {"the last of three", {CARD - 9, CARD - 1, CARD}, 3, 16, W1, 0, 1},
+    {"below all", {CARD + 1, CARD + 2, CARD + 9}, 3, 16, W1, 0, 0},
+    {"between two", {CARD - 1, CARD + 1, CARD + 2}, 3, 16, W1, 0, 0},
+    {"above all", {CARD - 9, CARD - 2, CARD - 1}, 3, 16, W1, 0, 0},
+    {"15 digits", {UINT64_C(378282246310005)}, 1, 15, "378282246310005", 0, 1},
+    {"15 digits on a list for 16", {UINT64_C(378282246310005)}, 1, 16, "378282246310005", 0, 0},
+    {"13 digits", {UINT64_C(4222222222222)}, 1, 13, "4222222222222", 0, 1},
+    {"zeros before them", {UINT64_C(4222222222222)}, 1, 13, "0004222222222222", 0, 0},
+    {"these on a list for 16", {UINT64_C(4222222222222)}, 1, 16, "0004222222222222", 0, 1},
+    {"13 digits on that list", {UINT64_C(4222222222222)}, 1, 16, "4222222222222", 0, 0},
+    {"nothing but zeros", {0, 1, 2}, 3, 13, "0000000000000", 0, 1},
+    {"the largest of 16 digits", {CARD, SIXTEEN - 1}, 2, 16, "9999999999999999", 0, 1},
+    {"the largest of 19", {NINETEEN - 1}, 1, 19, "9999999999999999999", 0, 1},
+    {"63 bits and 64", {INT64_MAX, NINETEEN - 1}, 2, 19, "9999999999999999999", 0, 1},
+    {"too large for 16 digits", {CARD, SIXTEEN}, 2, 16, W1, 21, KEPT},
+    {"large enough for 17", {CARD, SIXTEEN}, 2, 17, "10000000000000000", 0, 1},
+    {"too large for 19 digits", {NINETEEN}, 1, 19, "9999999999999999999", 21, KEPT},
+    {"the largest of 64 bits", {UINT64_MAX}, 1, 19, "9999999999999999999", 21, KEPT},
+    {"two equal numbers", {CARD, CARD}, 2, 16, W1, 21, KEPT},
+    {"an equal first pair", {CARD, CARD, CARD + 1}, 3, 16, W1, 21, KEPT},
+    {"an equal last pair", {CARD, CARD + 1, CARD + 1}, 3, 16, W1, 21, KEPT},
+    {"a falling first pair", {CARD, CARD - 1, CARD + 1}, 3, 16, W1, 21, KEPT},
+    {"a falling last pair", {CARD, CARD + 9, CARD + 1}, 3, 16, W1, 21, KEPT},
+    {"a list for 12 digits", {1}, 1, 12, "411111111111", 21, KEPT},
+    {"a list for 20 digits", {1}, 1, 20, "41111111111111111111", 21, KEPT},
+    {"an empty list for 12", {0}, 0, 12, W1, 21, KEPT},
+    {"an empty list for 20", {0}, 0, 20, W1, 21, KEPT},
+    {"an empty list for 0", {0}, 0, 0, W1, 21, KEPT},
+    {"a PAN of 12 digits", {CARD}, 1, 16, "411111111111", 2, KEPT},
+    {"a PAN of 20 digits", {CARD}, 1, 16, "41111111111111111111", 2, KEPT},
+    {"a PAN with a colon", {CARD}, 1, 16, "411111111111111:", 3, KEPT},
+    {"12 bytes with a colon", {CARD}, 1, 16, "41111111111:", 2, KEPT},
+    {"21 before 2", {CARD, CARD}, 2, 16, "411111111111", 21, KEPT},
+    {"21 before 3", {CARD, CARD}, 2, 16, "411111111111111:", 21, KEPT},
+};
+
+static void asks(const char *what, const uint64_t *list, size_t n, uint32_t length,
+                 const char *pan, uint32_t answer, uint32_t listed)
+{
+    uint32_t got = KEPT;
+    expect(what, gw_hot_find(list, n, length, bytes(pan), strlen(pan), &got), answer);
+    expect(what, got, listed);
+}
+
+/* Every number of a list is found, and none beside it; with one number more than there may
+ * be, none is. Then the last number is as large as may be, too large, and not above the one
+ * before it. */
+static void counted_list(size_t n)
+{
+    static uint64_t list[GW_HOT_NUMBERS + 1];
+    uint32_t refused = n > GW_HOT_NUMBERS ? 21 : 0;
+    char pan[20];
+    for (size_t i = 0; i < n; i++)
+        list[i] = CARD + 2 * i;
+    for (size_t i = 0; i <= 2 * n; i++) {
+        snprintf(pan, sizeof pan, "%" PRIu64, CARD - 1 + i);
+        asks(pan, list, n, 16, pan, refused, refused ? KEPT : i % 2);
+    }
+    list[n - 1] = SIXTEEN - 1;
+    asks("the largest", list, n, 16, "9999999999999999", refused, refused ? KEPT : 1);
+    list[n - 1] = SIXTEEN;
+    asks("one too large", list, n, 16, W1, 21, KEPT);
+    list[n - 1] = list[n - 2];
+    asks("the last pair equal", list, n, 16, W1, 21, KEPT);
+    list[n - 1] = SIXTEEN - 1;
+    list[n / 2] = list[n / 2 - 1];
+    asks("a pair in the middle equal", list, n, 16, W1, 21, KEPT);
+    list[n / 2] = CARD + 2 * (n / 2);
+    list[0] = list[1];
+    asks("the first pair equal", list, n, 16, W1, 21, KEPT);
+}
+
+/* A swipe: its card, the acquirer's table by the letters of its records, how many of its
+ * last bytes aren't lent, the hot list, the amount, and the answer. */
+struct attempt {
+    const char *what, *pan, *table;
+    size_t cut;
+    uint64_t list[2];
+    size_t n;
+    uint32_t length, amount, answer;
+};
+
+static const struct attempt attempts[] = {
+    {"a listed card", W1, "w", 0, {CARD}, 1, 16, 250, 22},
+    {"a card above those listed", W1, "w", 0, {1, CARD - 1}, 2, 16, 250, 0},
+    {"a number listed for 17 digits", W1, "w", 0, {CARD}, 1, 17, 250, 0},
+    {"an empty list", W1, "w", 0, {0}, 0, 13, 250, 0},
+    {"a list that doesn't rise", W1, "w", 0, {CARD, CARD}, 2, 16, 250, 21},
+    {"a number too large", W1, "w", 0, {CARD, SIXTEEN}, 2, 16, 250, 21},
+    {"an empty list for 12 digits", W1, "w", 0, {0}, 0, 12, 250, 21},
+    {"14 before 21", W1, "w", 1, {CARD, CARD}, 2, 16, 250, 14},
+    {"21 before 17", W1, "w", 0, {CARD, CARD}, 2, 16, 0, 21},
+    {"17 before 22", W1, "w", 0, {CARD}, 1, 16, 0, 17},
+    {"4 before 22", "4111111111111112", "w", 0, {CARD + 1}, 1, 16, 250, 4},
+    {"15 before 22", W1, "b", 0, {CARD}, 1, 16, 250, 15},
+};
+
+/* On either track a refusal leaves the journal and the serial, and zeros the scratch. */
+static void attempt(const struct attempt *a, const struct track *t)
+{
+    static const uint8_t zeros[76];
+    bool one = t == &track1;
+    uint8_t stream[48] = {0}, table[16], scratch[76], slot[32] = {0};
+    uint32_t serial = KEPT;
+    char card[64];
+    snprintf(card, sizeof card, one ? "%%B%s^DOE/JANE^2512101?" : ";%s=2512101?", a->pan);
+    put_track(t, stream, card);
+    size_t bits = t->width * (strlen(card) + 1), table_n = put_table(table, a->table) - a->cut;
+    memset(scratch, 0x5a, sizeof scratch);
+    uint32_t answer = (one ? gw_swipe1 : gw_swipe)(
+        stream, sizeof stream, bits, table, 0, table, table_n, a->list, a->n, a->length,
+        a->amount, 0, scratch, t->most, slot, sizeof slot, &serial);
+    expect(a->what, answer, a->answer);
+    expect("its serial", serial, a->answer ? KEPT : 1);
+    expect("its journal as it was", memcmp(slot, zeros, sizeof slot) == 0, a->answer != 0);
+    expect("its scratch zero", memcmp(scratch, zeros, t->most) == 0, 1);
+}
+
+static void hot_lists(void)
+{
+    static const size_t counts[] = {2, 3, 4, 7, 8, 9, 8191, 8192, 8193};
+    for (size_t i = 0; i < sizeof questions / sizeof questions[0]; i++) {
+        const struct question *q = &questions[i];
+        asks(q->what, q->list, q->n, q->length, q->pan, q->answer, q->listed);
+    }
+    for (size_t i = 0; i < sizeof counts / sizeof counts[0]; i++)
+        counted_list(counts[i]);
+    for (size_t i = 0; i < sizeof attempts / sizeof attempts[0]; i++) {
+        attempt(&attempts[i], &track2);
+        attempt(&attempts[i], &track1);
+    }
 }
 
 /* ---- The walk, and the host --------------------------------------------- */
@@ -523,10 +689,11 @@ int main(void)
     swipe1(false);
     swipe1(true);
     range_tables();
+    hot_lists();
     walk();
     ledger();
     released_by_answers();
-    printf("worked cases, cards of track 1, range tables, and messages to the host: %s\n",
+    printf("worked cases, cards of track 1, range tables, hot lists, messages to the host: %s\n",
            wrong ? "WRONG" : "as written");
     return wrong ? 1 : 0;
 }

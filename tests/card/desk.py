@@ -1,5 +1,5 @@
-"""Tests of the commands as people expect them: answers that arrive, lines as they are typed, help, dumps, box and host."""
-import collections, functools, operator, os, random, struct, subprocess
+"""Tests of the commands as people expect them: answers that arrive, lines as they are typed, help, tables, the hot list, dumps, box and host."""
+import collections, functools, operator, os, random, struct, subprocess, time
 
 from drive import CARD, EVERY, OTHER, SLOT, SLOTS, TRACK1, TRACK2, Session, lines, program, records, run, same, traced
 
@@ -96,13 +96,13 @@ def groups(folder):
 def every_example(folder):
     """Each line of `help` begins with a command, whose example is understood and is answered as the line says."""
     known = lines("help\n")
-    same(len(known) >= 28, True, "how many commands")
-    before = f"slots 4\nbook {CARD} 7 250 0\nsite {EVERY}\n"
+    same(len(known) >= 30, True, "how many commands")
+    before = f"slots 4\nbook {CARD} 7 250 0\nsite {EVERY}\nhot 16 4012888888881881\n"
     for line in known:
         usage, rest = line.split(" -> ", 1)
         answer, example = rest.rsplit(", e.g. ", 1)
         same(example.split()[0], usage.split()[0], "the example's command")
-        found = lines(before + example + "\n")[3:]
+        found = lines(before + example + "\n")[4:]
         same(found[0].startswith(("not understood", "refused")), False, f"{example}: {found[0]}")
         first = answer.split()[0]
         if first.islower() and first not in ("as", "these", "damaged"):
@@ -114,6 +114,7 @@ def nearest(folder):
     for word, wanted in (
         ("relase", "release"), ("bok", "book"), ("luhnmake", "luhn-make"), ("swype", "swipe"), ("survy", "survey"), ("Tell", "tell"),
         ("swype1", "swipe1"), ("trac1", "track1"), ("Layout1", "layout1"), ("leger", "ledger"), ("taken", "take"),
+        ("hto", "hot"), ("Hot", "hot"), ("lsted", "listed"),
     ):
         same(lines(f"{word} 1\n"), [f"not understood: no such command (nearest: {wanted}; help lists all)"])
     same(lines("x" * 100000 + "\n")[0].startswith("not understood: no such command (nearest: "), True, "a long word")
@@ -205,6 +206,100 @@ def any_tables(folder):
             same(session.ask(line), f"booked {serial}")
             same(session.ask(f"show {serial}").split(" label ")[1], f"{tables[name][k][2]} card 411111******1111", f"the label by {tables}")
     same((session.end(), serial > 0, none > 0), ([], True, True), "what was met")
+
+
+# ---- the hot list
+
+NOT_A_LIST = "refused 21: hot list not rising or too long, or PAN length or a number wrong"
+
+
+def hot(length, numbers):
+    return " ".join(map(str, ["hot", length, *numbers]))
+
+
+def hot_list(chance, length):
+    """Numbers around that of CARD, or of a PAN like it, which is among them or not: a few, or many next to each other or far apart."""
+    centre, around = int((CARD * 2)[:length]), chance.choice([3, 1000, 10**12])
+    numbers = {centre + chance.randint(-around, around) for k in range(chance.choice([0, 1, 2, 5, 40, 1000]))}
+    return sorted(numbers | {centre} if chance.random() < 0.5 else numbers - {centre})
+
+
+def spoilt(chance, length, numbers):
+    """The line of a list with one thing wrong, and its answer."""
+    at, most = chance.randint(0, len(numbers)), 10**length
+    return chance.choice([
+        (hot(length, numbers + [most]), NOT_A_LIST), (hot(chance.choice([0, 12, 20, 4294967295]), numbers), NOT_A_LIST),
+        (hot(length, numbers[:at] + [most - 1] * 2 + numbers[at:]), NOT_A_LIST), (hot(length, [1, *numbers[::-1], 0]), NOT_A_LIST),
+        (hot(length, numbers[:at] + ["x"] + numbers[at:]), "not understood: not a number"),
+        (hot(length, numbers[:at] + [2**64] + numbers[at:]), "not understood: number too large"),
+    ])
+
+
+def any_hot_list(folder):
+    """Lists of every PAN length: a card is listed exactly where it has that length and its number is in the list, swipes of both tracks refuse
+    CARD exactly then, and a line that is refused or isn't understood leaves the list that was there."""
+    chance, session, serial, met = random.Random(8), Session(), 0, collections.Counter()
+    same(session.ask(f"site {EVERY}"), "site 1 records")
+    for turn in range(350):
+        length = 13 + turn % 7
+        numbers = hot_list(chance, length)
+        same(session.ask(hot(length, numbers)), f"hot {len(numbers)} numbers")
+        line, wanted = spoilt(chance, length, numbers)
+        same(session.ask(line), wanted, line)
+        near = {n + k for n in numbers[:2] + numbers[-2:] + chance.sample(numbers, min(4, len(numbers))) for k in (-1, 0, 1)} | {0, 18, 10**length - 1}
+        for pan in {f"{n:0{size}}" for n in near for size in (length, length + 1) if size < 20} | {CARD, OTHER}:
+            listed = len(pan) == length and int(pan) in numbers
+            met[f"listed {listed}"] += 1
+            same(session.ask(f"listed {pan}"), "yes" if listed else "no", f"listed {pan} after {hot(length, numbers)}")
+        blocked = length == len(CARD) and int(CARD) in numbers
+        for line in (f"swipe {TRACK2} 1 0", f"swipe1 {TRACK1} 1 0"):
+            met[f"blocked {blocked}"] += 1
+            serial += not blocked
+            same(session.ask(line), "refused 22: card on the hot list" if blocked else f"booked {serial}", f"{line} after {hot(length, numbers)}")
+        same(session.ask("tell").split()[:3], ["held", str(serial), str(serial)], "what is held")
+    same((session.end(), sorted(met)), ([], ["blocked False", "blocked True", "listed False", "listed True"]), "what was met")
+
+
+def full_hot_list(folder):
+    """8,192 numbers are taken, and the first, the last and one between are found. 8,193 are refused, however long, and so are as many as a line
+    holds; then the old list stands. A line longer than that is passed over."""
+    top, found = 10**19 - 1, ["hot 8192 numbers", "yes", "yes", "yes", "no"]
+    full = range(top - 8191, top + 1)
+    ask = "".join(f"listed {n}\n" for n in (full[0], full[4711], full[-1], full[0] - 1))
+    same(lines(hot(19, full) + "\n" + ask), found)
+    for line, wanted in (
+        (hot(19, range(full[0] - 1, top + 1)), NOT_A_LIST), (hot(19, range(2**64 - 8193, 2**64)), NOT_A_LIST), (hot(19, range(30000)), NOT_A_LIST),
+        ("hot 13" + " 1" * 89997, NOT_A_LIST), ("hot 13" + " 1" * 89998, "not understood: line too long"),
+        (hot(19, [*range(2**64 - 8193, 2**64), 2**64]), "not understood: number too large"), (hot(19, [*range(30000), "x"]), "not understood: not a number"),
+    ):
+        same(lines(hot(19, full) + "\n" + line + "\n" + ask), found[:1] + [wanted] + found[1:], f"a line of {len(line)} bytes, {line[:30]} ..")
+
+
+def many_hot_lists(folder):
+    """40 full lists, some 6 megabytes, are taken within a minute: a line is walked once, and not once for each of its numbers."""
+    began = time.monotonic()
+    same(lines((hot(19, range(10**19 - 8192, 10**19)) + "\n") * 40), ["hot 8192 numbers"] * 40)
+    same(time.monotonic() - began < 60, True, "within a minute")
+
+
+def hot_list_in_file(folder):
+    """A list in a file, one number a line in any order, with zeros in front or without, some of them twice, is given as the manual says."""
+    numbers, path = random.Random(8).sample(range(10**16), 8192), folder / "list"
+    path.write_text("".join(f"{n:016}\n" if n % 2 else f"{n}\n" for n in numbers + numbers[:100]))
+    line = subprocess.run(["sh", "-c", 'echo hot 16 $(sort -nu "$0")', path], stdout=subprocess.PIPE, check=True).stdout.decode()
+    same(lines(line + "".join(f"listed {n:016}\n" for n in numbers)), ["hot 8192 numbers"] + ["yes"] * 8192)
+
+
+def hot_list_in_memory(folder):
+    """The hot list stands beside any journal, one that is only read too, is gone at the end, and a card that it blocks changes no file."""
+    path = journal_at(folder / "journal", 4)
+    same(lines(f"site {EVERY}\nswipe {TRACK2} 250 0\n", path), ["site 1 records", "booked 1"])
+    data, blocked = path.read_bytes(), "refused 22: card on the hot list"
+    for words in ((path,), ("--read-only", path)):
+        same(lines(f"hot 16 {CARD}\nlisted {CARD}\n", *words), ["hot 1 numbers", "yes"])
+        same(lines(f"listed {CARD}\n", *words), ["no"], "the next run")
+    same(lines(f"site {EVERY}\nhot 16 {CARD}\nswipe {TRACK2} 1 0\nswipe1 {TRACK1} 1 0\n", path)[2:], [blocked] * 2)
+    same(path.read_bytes(), data, "the file")
 
 
 # ---- journals
@@ -345,4 +440,5 @@ def ledger_in_memory(folder):
 
 
 TESTS = [few_writes, each_in_time, full_output, closed_pipe, long_unheard, crlf, groups, every_example, nearest, any_fleet_card,
-         any_tables, pasted_back, decoded, wrong_lengths, any_course, ledger_in_memory]
+         any_tables, any_hot_list, full_hot_list, many_hot_lists, hot_list_in_file, hot_list_in_memory, pasted_back, decoded,
+         wrong_lengths, any_course, ledger_in_memory]

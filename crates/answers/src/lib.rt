@@ -14,7 +14,8 @@ use say::fields;
 
 // Whether a word is empty. Of a text in groups the spaces don't count, but the word before it does.
 fn has_gap(row: Row, line: &[u8]) -> bool {
-    if row.most < menu::GROUPS {
+    let grouped = row.grouped;
+    if !grouped {
         return script::has_gap(line);
     }
     if row.least < 2 {

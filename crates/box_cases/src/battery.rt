@@ -3,6 +3,7 @@
 use held::Told;
 use plays::Totals;
 use replay::Replayed;
+use samples::NONE;
 
 // The spring, a byte a call: `p` a payment, `?` a record of no known kind, any other a release up to its number less that of `@`: D is 4.
 const SPRING: [u8; 50] = *b"ppppppppppppDppppppppppJJppppppIZppppppppppppppa~?";
@@ -95,8 +96,9 @@ pub fn told(out: &mut [u8; 4096], t: Totals, journal: &[u8]) {
 
 // A script played on a journal, with this table of ranges and scratch for either track.
 pub fn played(out: &mut [u8; 4096], script: &[u8], site: &[u8], journal: &mut [u8]) {
+    let none = NONE;
     let mut scratch = [0u8; 76];
-    match replay::replay(script, site, b"", &mut scratch, journal) {
+    match replay::replay(script, site, b"", &none, 16, &mut scratch, journal) {
         Replayed::Played(t) => told(out, t, journal),
         Replayed::NotWhole => not_whole(out),
         Replayed::TooLong => too_long(out),

@@ -1,6 +1,6 @@
 use layout::Track;
 use swipe::Swiped;
-ghost use Rattle.payer.specs.Payer.{given};
+ghost use Rattle.payer.specs.Payer.{terms, given};
 ghost use Rattle.c_box.specs.Calls.{Swipes};
 
 // A swipe of this track, its serial handed over.
@@ -10,13 +10,15 @@ pub fn swipe(
     bits: u64,
     site: &[u8],
     acquirer: &[u8],
+    hot: &[u64],
+    digits: u32,
     amount: u32,
     clock: u32,
     scratch: &mut [u8],
     journal: &mut [u8],
     serial: &mut u32,
 ) -> u32
-    ensures { λ r. ⌜ Swipes (given track (now (stream .entry)) bits (now (site .entry)) (now (acquirer .entry))) amount clock
+    ensures { λ r. ⌜ Swipes (given track (now (stream .entry)) bits (terms (now (site .entry)) (now (acquirer .entry)) (now (hot .entry)) digits)) amount clock
         (now (scratch .entry)) (now (journal .entry)) (now (serial .entry)) r (now (serial .exit)) (now (scratch .exit)) (now (journal .exit)) ⌝ }
 {
     match swipe::swipe(
@@ -25,6 +27,8 @@ pub fn swipe(
         bits,
         site,
         acquirer,
+        hot,
+        digits,
         amount,
         clock,
         scratch,

@@ -4,7 +4,7 @@ use Prim.Native.Nat.{ℕ}
 use mathlib.Core.Path.{_≡_, sym, _∙_}
 use mathlib.Core.List.{List}
 use Rattle.hands.proofs.Laws.{hands-one}
-use Rattle.c_numbers.specs.Calls.{LuhnTests, LuhnMakes, PanMasks, RangeFinds, IbanTests, IbanMakes, CreditorTests, CreditorMakes}
+use Rattle.c_numbers.specs.Calls.{LuhnTests, LuhnMakes, PanMasks, RangeFinds, HotFinds, IbanTests, IbanMakes, CreditorTests, CreditorMakes}
 
 -- luhn_test
 pub luhn-test-one : (text : List ℕ) (r q : ℕ) → LuhnTests text r → LuhnTests text q → r ≡ q
@@ -22,6 +22,10 @@ pan-mask-one pan out r q k l f g = (f .0 ∙ sym (g .0), f .1 ∙ sym (g .1))
 pub range-find-one : (site acquirer pan : List ℕ) (x : ℕ × ℕ) (r q : ℕ) (y z : ℕ × ℕ)
     → RangeFinds site acquirer pan x r y → RangeFinds site acquirer pan x q z → (r ≡ q) × (y ≡ z)
 range-find-one site acquirer pan x r q y z f g = hands-one f g
+
+-- hot_find
+pub hot-find-one : (list : List ℕ) (n : ℕ) (pan : List ℕ) (x r q y z : ℕ) → HotFinds list n pan x r y → HotFinds list n pan x q z → (r ≡ q) × (y ≡ z)
+hot-find-one list n pan x r q y z f g = hands-one f g
 
 -- iban_test
 pub iban-test-one : (text : List ℕ) (r q : ℕ) → IbanTests text r → IbanTests text q → r ≡ q

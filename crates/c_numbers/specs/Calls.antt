@@ -6,9 +6,10 @@ use lib.ListN.{length}
 use Rattle.luhn.specs.Luhn as luhn
 use Rattle.pan.specs.Pan.{maskRule, maskBytes}
 use Rattle.ranges.specs.Ranges.{rangeRule}
+use Rattle.hotlist.specs.Hotlist.{hotRule}
 use Rattle.creditor.specs.Creditor as creditor
 use Rattle.iban.specs.Iban as iban
-use Rattle.c_numbers.specs.Values.{tableOf, offsetOf}
+use Rattle.c_numbers.specs.Values.{tableOf, offsetOf, yesOrNo}
 use Rattle.hands.specs.Hands.{Answers, Hands}
 
 -- ---- Luhn
@@ -26,6 +27,9 @@ PanMasks pan out r k = Answers (maskRule pan (length out)) r × (k ≡ maskBytes
 
 abbrev pub RangeFinds : List ℕ → List ℕ → List ℕ → ℕ × ℕ → ℕ → ℕ × ℕ → Type 0
 RangeFinds site acquirer pan x r y = Hands (rangeRule site acquirer pan) x (λ p. (tableOf p, offsetOf p)) r y
+
+abbrev pub HotFinds : List ℕ → ℕ → List ℕ → ℕ → ℕ → ℕ → Type 0
+HotFinds list n pan x r y = Hands (hotRule list n pan) x yesOrNo r y
 
 -- ---- check pairs
 

@@ -7,6 +7,7 @@ pub use accounts::creditor_make;
 pub use accounts::creditor_test;
 pub use accounts::iban_make;
 pub use accounts::iban_test;
+pub use cards::hot_find;
 pub use cards::pan_mask;
 pub use cards::range_find;
 pub use digits::luhn_make;

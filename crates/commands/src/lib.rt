@@ -21,6 +21,7 @@ fn answer(
     line: &[u8],
     site: &mut [u8],
     acquirer: &mut [u8],
+    hot: &mut [u64; 8192],
     journal: &mut [u8],
     st: State,
 ) -> State {
@@ -31,8 +32,9 @@ fn answer(
     let command = row.command;
     match command {
         Command::Tables(c) => keeping::on_tables(out, c, line, site, acquirer, st),
+        Command::Hot(c) => keeping::on_hot(out, c, line, hot, st),
         Command::Fill(c) => keeping::in_place(out, c, line, journal, st),
-        Command::Change(c) => keeping::change(out, c, line, site, acquirer, journal, st),
+        Command::Change(c) => keeping::change(out, c, line, site, acquirer, hot, journal, st),
         Command::Ledger(c) => keeping::on_ledger(out, c, line, st),
         _ => answer_only(out, row, line, journal, st),
     }
@@ -61,6 +63,7 @@ fn take_typed(
     typed: &[u8],
     site: &mut [u8],
     acquirer: &mut [u8],
+    hot: &mut [u64; 8192],
     journal: &mut [u8],
     st: State,
 ) -> State {
@@ -69,7 +72,15 @@ fn take_typed(
         return st;
     }
     show(out, typed, b": ", st.shown);
-    answer(out, script::untagged(typed), site, acquirer, journal, st)
+    answer(
+        out,
+        script::untagged(typed),
+        site,
+        acquirer,
+        hot,
+        journal,
+        st,
+    )
 }
 
 // Answers a line that was taken, at the front of its buffer.
@@ -79,6 +90,7 @@ fn take_line(
     line: &[u8],
     site: &mut [u8],
     acquirer: &mut [u8],
+    hot: &mut [u64; 8192],
     journal: &mut [u8],
     st: State,
 ) -> State {
@@ -92,6 +104,7 @@ fn take_line(
         script::trimmed(text::piece(line, 0, taken.length)),
         site,
         acquirer,
+        hot,
         journal,
         st,
     )
@@ -122,9 +135,10 @@ fn next_line(out: &mut [u8], input: &mut [u8], line: &mut [u8], s: Source, promp
 fn take_lines(
     out: &mut [u8; 65544],
     input: &mut [u8; 65536],
-    line: &mut [u8; 140000],
+    line: &mut [u8; 180000],
     site: &mut [u8; 70000],
     acquirer: &mut [u8; 70000],
+    hot: &mut [u64; 8192],
     journal: &mut [u8],
     first: State,
 ) {
@@ -138,7 +152,7 @@ fn take_lines(
         if ended {
             break;
         }
-        st = take_line(out, source, line, site, acquirer, journal, st);
+        st = take_line(out, source, line, site, acquirer, hot, journal, st);
     }
 }
 
@@ -147,15 +161,17 @@ fn take_lines(
 pub fn run(journal: &mut [u8], first: State) {
     let mut out = [0u8; 65544];
     let mut input = [0u8; 65536];
-    let mut line = [0u8; 140000];
+    let mut line = [0u8; 180000];
     let mut site = [0u8; 70000];
     let mut acquirer = [0u8; 70000];
+    let mut hot = [0u64; 8192];
     take_lines(
         &mut out,
         &mut input,
         &mut line,
         &mut site,
         &mut acquirer,
+        &mut hot,
         journal,
         first,
     );

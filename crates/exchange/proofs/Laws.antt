@@ -12,6 +12,7 @@ use lib.Seq.{getD-take, getD-drop}
 use borrow.Author.Tests.{eq-eqb, ne-eqb, leb-true}
 use Rattle.text.specs.Numbers.{u32At}
 use Rattle.slots.proofs.Ranges.{differ}
+use Rattle.payer.specs.Payer.{Terms}
 use Rattle.history.specs.History.{Done, Payment, booked, highest, takings, Demand3}
 use Rattle.history.proofs.Laws.{demand-3}
 use Rattle.plays.specs.Script.{clockAt, scriptRule}
@@ -29,10 +30,10 @@ use Rattle.exchange.proofs.One as one
 use Rattle.exchange.proofs.Linked.{worldOf, Linked, own-turn, turn-follows}
 
 -- any two outcomes that running a script allows are equal: answer, scratch, journal and air
-pub run-one : (s site acquirer t j a : List ℕ) (l : Ledger) (r q : Exchanged) (u v k m b c : List ℕ)
-    → Exchanges s site acquirer t j a l (scriptRule s) r u k b → Exchanges s site acquirer t j a l (scriptRule s) q v m c
+pub run-one : (s : List ℕ) (terms : Terms) (t j a : List ℕ) (l : Ledger) (r q : Exchanged) (u v k m b c : List ℕ)
+    → Exchanges s terms t j a l (scriptRule s) r u k b → Exchanges s terms t j a l (scriptRule s) q v m c
     → (r ≡ q) × (u ≡ v) × (k ≡ m) × (b ≡ c)
-run-one s site acquirer t j a l = one.run-one s site acquirer t j a l (scriptRule s)
+run-one s terms t j a l = one.run-one s terms t j a l (scriptRule s)
 
 -- ---- a script from an empty journal and a fresh ledger is a course of events
 
@@ -71,8 +72,8 @@ record Reached (n : ℕ) (ds : List Done) (x : State) : Type 0 where
   pub course : Course (start n) acts ds (worldOf x taken records answers)
   pub linked : Linked x records answers
 
-reached : {s site acquirer : List ℕ} (t a : List ℕ) (n : ℕ) {i : ℕ} {ds : List Done} {x : State}
-    → Runs s site acquirer (cleared t (replicate (32 * n) 0) a opened) i ds x → Reached n ds x
+reached : {s : List ℕ} {terms : Terms} (t a : List ℕ) (n : ℕ) {i : ℕ} {ds : List Done} {x : State}
+    → Runs s terms (cleared t (replicate (32 * n) 0) a opened) i ds x → Reached n ds x
 reached t a n no-record = record {
   acts = [];
   taken = [];
@@ -81,10 +82,10 @@ reached t a n no-record = record {
   course = nothing-yet;
   linked = cleared-linked t (replicate (32 * n) 0) a;
 }
-reached {s} {site} {acquirer} t a n (one-more {i = i} {w = w} {x = x} es c m) =
+reached {s} {terms} t a n (one-more {i = i} {w = w} {x = x} es c m) =
     let p = reached t a n c in
-    let turn = turnAt s site acquirer (w .scratch) (128 * i) in
-    let own = own-turn s site acquirer (w .scratch) (128 * i) in
+    let turn = turnAt s terms (w .scratch) (128 * i) in
+    let own = own-turn s terms (w .scratch) (128 * i) in
     let f = turn-follows w (p .taken) (p .records) (p .answers) (p .linked) (clockAt s (128 * i)) turn es x own m in
     record {
       acts = f .acts ++ p .acts;
@@ -110,9 +111,9 @@ takings-some zero ps = omega arith
 takings-some (suc n) [] = omega arith
 takings-some (suc n) (p ∷ ps) = let ih = takings-some n ps in omega arith
 
-pub run-agrees : (s site acquirer t a : List ℕ) (n : ℕ) (r : Sums) (u k b : List ℕ) → 1 ≤ n → n ≤ 2048
-    → RunsAll s site acquirer (cleared t (replicate (32 * n) 0) a opened) r u k b → Agreed s site acquirer t a n r u k b
-run-agrees s site acquirer t a n r u k b least most w =
+pub run-agrees : (s : List ℕ) (terms : Terms) (t a : List ℕ) (n : ℕ) (r : Sums) (u k b : List ℕ) → 1 ≤ n → n ≤ 2048
+    → RunsAll s terms (cleared t (replicate (32 * n) 0) a opened) r u k b → Agreed s terms t a n r u k b
+run-agrees s terms t a n r u k b least most w =
     let ds : List Done = w .done in
     let p = reached t a n (w .runs) in
     let world : World = worldOf (asState u k b (r .ledger) (w .zero-sent)) (p .taken) (p .records) (p .answers) in
@@ -136,9 +137,9 @@ run-agrees s site acquirer t a n r u k b least most w =
     }
 
 -- whatever the journal and the ledger are, where they are empty and fresh
-pub agreed : (s site acquirer t j a : List ℕ) (l : Ledger) (r : Sums) (u k b : List ℕ) → RunsAll s site acquirer (cleared t j a l) r u k b
-    → Agrees s site acquirer t j a l (Ran r) u k b
-agreed s site acquirer t j a l r u k b w n least most ej el =
-    run-agrees s site acquirer t a n r u k b least most
-    (subst (λ (x : Ledger). RunsAll s site acquirer (cleared t (replicate (32 * n) 0) a x) r u k b) el
-    (subst (λ (x : List ℕ). RunsAll s site acquirer (cleared t x a l) r u k b) ej w))
+pub agreed : (s : List ℕ) (terms : Terms) (t j a : List ℕ) (l : Ledger) (r : Sums) (u k b : List ℕ) → RunsAll s terms (cleared t j a l) r u k b
+    → Agrees s terms t j a l (Ran r) u k b
+agreed s terms t j a l r u k b w n least most ej el =
+    run-agrees s terms t a n r u k b least most
+    (subst (λ (x : Ledger). RunsAll s terms (cleared t (replicate (32 * n) 0) a x) r u k b) el
+    (subst (λ (x : List ℕ). RunsAll s terms (cleared t x a l) r u k b) ej w))

@@ -25,6 +25,7 @@ use Rattle.slots.specs.declared.Newest.the-variants.{Malformed, Is}
 use Rattle.held.specs.Held.{recordAt, heldAfter, heldList, lowOf}
 use Rattle.held.specs.Rules.{showRule, heldIn}
 use Rattle.held.proofs.Rule.{shown-in}
+use Rattle.payer.specs.Payer.{Terms}
 use Rattle.history.specs.History.{Call, book, release, aside, Done}
 use Rattle.plays.specs.Script.{kindAt, panAt, labelAt, amountAt, serialAt, swipeAt, callAt}
 use Rattle.layout.specs.declared.Track.the-variants.{Two, One}
@@ -73,9 +74,9 @@ OwnTurn (send s place) = Unit {0}
 OwnTurn (deliver place) = Unit {0}
 OwnTurn (answer s) = Unit {0}
 
-pub own-turn : (s site acquirer t : List ℕ) (at : ℕ) → OwnTurn (turnAt s site acquirer t at)
+pub own-turn : (s : List ℕ) (terms : Terms) (t : List ℕ) (at : ℕ) → OwnTurn (turnAt s terms t at)
 unfolding turnAt ownAt callAt
-own-turn s site acquirer t at = turn (eqb k 5) (eqb k 6) (eqb k 7)
+own-turn s terms t at = turn (eqb k 5) (eqb k 6) (eqb k 7)
   where
     k : ℕ
     k = kindAt s at
@@ -83,7 +84,7 @@ own-turn s site acquirer t at = turn (eqb k 5) (eqb k 6) (eqb k 7)
     -- of a record that isn't a release
     call : (b1 b3 b4 : Bool)
         → Own (cond b1 (book (panAt s at) (labelAt s at) (amountAt s at))
-        (cond false (release (serialAt s at)) (cond b3 (swipeAt Two s site acquirer t at) (cond b4 (swipeAt One s site acquirer t at) aside))))
+        (cond false (release (serialAt s at)) (cond b3 (swipeAt Two s terms t at) (cond b4 (swipeAt One s terms t at) aside))))
     call true b3 b4 = tt
     call false true b4 = tt
     call false false true = tt
@@ -92,13 +93,13 @@ own-turn s site acquirer t at = turn (eqb k 5) (eqb k 6) (eqb k 7)
     own : (b2 : Bool)
         → Own (cond b2 aside (cond (eqb k 1) (book (panAt s at) (labelAt s at) (amountAt s at))
         (cond b2 (release (serialAt s at))
-        (cond (eqb k 3) (swipeAt Two s site acquirer t at) (cond (eqb k 4) (swipeAt One s site acquirer t at) aside)))))
+        (cond (eqb k 3) (swipeAt Two s terms t at) (cond (eqb k 4) (swipeAt One s terms t at) aside)))))
     own true = tt
     own false = call (eqb k 1) (eqb k 3) (eqb k 4)
 
     turn : (b5 b6 b7 : Bool)
         → OwnTurn (cond b5 (send (serialAt s at) (placeAt s at))
-        (cond b6 (deliver (placeAt s at)) (cond b7 (answer (serialAt s at)) (makes (ownAt s site acquirer t at)))))
+        (cond b6 (deliver (placeAt s at)) (cond b7 (answer (serialAt s at)) (makes (ownAt s terms t at)))))
     turn true b6 b7 = tt
     turn false true b7 = tt
     turn false false true = tt

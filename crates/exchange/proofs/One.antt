@@ -5,6 +5,7 @@ use mathlib.Core.Bool.{Bool, true, false}
 use mathlib.Core.List.{List, [], _∷_, _++_}
 use Rattle.reasons.specs.Reasons.{Outcome}
 use Rattle.slots.proofs.Views.{one-view}
+use Rattle.payer.specs.Payer.{Terms}
 use Rattle.history.specs.History.{Call, release, Done}
 use Rattle.history.proofs.One.{one-outcome}
 use Rattle.plays.specs.Script.{clockAt, scratchLeft, TotalsOf}
@@ -38,19 +39,19 @@ turns-one v t (answer s) ds es w x a b = by (wasSent v s) a b
     by true a b = makes-one v t (release s) ds es w x a b
     by false a b = quiet-one refl a b
 
-runs-one : {s site acquirer : List ℕ} {v : State} {i : ℕ} {ds es : List Done} {w x : State} → Runs s site acquirer v i ds w → Runs s site acquirer v i es x
+runs-one : {s : List ℕ} {terms : Terms} {v : State} {i : ℕ} {ds es : List Done} {w x : State} → Runs s terms v i ds w → Runs s terms v i es x
     → (ds ≡ es) × (w ≡ x)
 runs-one no-record no-record = (refl, refl)
-runs-one {s} {site} {acquirer} {v} (one-more {i = i} {w = w} {x = x} es a p) (one-more {x = z} fs b q) =
+runs-one {s} {terms} {v} (one-more {i = i} {w = w} {x = x} es a p) (one-more {x = z} fs b q) =
     let o = runs-one a b in
-    let same = subst⁻¹ (λ (n : State). Turns n (clockAt s (128 * i)) (turnAt s site acquirer (n .scratch) (128 * i)) fs z) (o .1) q in
-    let u = turns-one w (clockAt s (128 * i)) (turnAt s site acquirer (w .scratch) (128 * i)) es fs x z p same in
+    let same = subst⁻¹ (λ (n : State). Turns n (clockAt s (128 * i)) (turnAt s terms (n .scratch) (128 * i)) fs z) (o .1) q in
+    let u = turns-one w (clockAt s (128 * i)) (turnAt s terms (w .scratch) (128 * i)) es fs x z p same in
     ((λ k. o .0 k ++ u .0 k), u .1)
 
 -- any two outcomes that running a script allows are equal: answer, scratch, journal and air
-pub run-one : (s site acquirer t j a : List ℕ) (l : Ledger) (o : Outcome (Unit {0})) (r q : Exchanged) (u v k m b c : List ℕ)
-    → Exchanges s site acquirer t j a l o r u k b → Exchanges s site acquirer t j a l o q v m c → (r ≡ q) × (u ≡ v) × (k ≡ m) × (b ≡ c)
-run-one s site acquirer t j a l o r q u v k m b c (ran {r = x} p) (ran {r = y} w) =
+pub run-one : (s : List ℕ) (terms : Terms) (t j a : List ℕ) (l : Ledger) (o : Outcome (Unit {0})) (r q : Exchanged) (u v k m b c : List ℕ)
+    → Exchanges s terms t j a l o r u k b → Exchanges s terms t j a l o q v m c → (r ≡ q) × (u ≡ v) × (k ≡ m) × (b ≡ c)
+run-one s terms t j a l o r q u v k m b c (ran {r = x} p) (ran {r = y} w) =
     let e = runs-one (p .runs) (w .runs) in
     let f : x .totals ≡ y .totals =
     totals-one (w .done) (x .totals) (y .totals) (subst (λ (ds : List Done). TotalsOf ds (x .totals)) (e .0) (p .totals)) (w .totals) in (
@@ -59,5 +60,5 @@ run-one s site acquirer t j a l o r q u v k m b c (ran {r = x} p) (ran {r = y} w
       ap (λ (z : State). z .journal) (e .1),
       ap (λ (z : State). z .air) (e .1),
     )
-run-one s site acquirer t j a l o r q u v k m b c not-whole not-whole = (refl, refl, refl, refl)
-run-one s site acquirer t j a l o r q u v k m b c too-long too-long = (refl, refl, refl, refl)
+run-one s terms t j a l o r q u v k m b c not-whole not-whole = (refl, refl, refl, refl)
+run-one s terms t j a l o r q u v k m b c too-long too-long = (refl, refl, refl, refl)

@@ -15,6 +15,7 @@ use Rattle.slots.specs.Views.{Seen}
 use Rattle.held.specs.Rules.{showRule, saidShown, Finds}
 use Rattle.held.specs.declared.Shown.{Shown}
 use Rattle.held.specs.declared.Shown.the-variants.{At, Refused}
+use Rattle.payer.specs.Payer.{Terms}
 use Rattle.history.specs.History.{Call, release, aside, takings, booked, freedCount, freedSum}
 use Rattle.plays.specs.Script.{kindAt, serialAt, callAt, refusedCount, skippedCount, TotalsOf, Nothing, Bounded, PlaysOne}
 use Rattle.plays.specs.declared.Totals.{Totals}
@@ -152,29 +153,29 @@ took-answer v clock s r k e el ez w = record {
 
 -- ---- the turn of a record
 
-module _ (s site acquirer t : List ℕ) (at : ℕ) where
-  pub is-send : kindAt s at ≡ 5 → send (serialAt s at) (placeAt s at) ≡ turnAt s site acquirer t at
+module _ (s : List ℕ) (terms : Terms) (t : List ℕ) (at : ℕ) where
+  pub is-send : kindAt s at ≡ 5 → send (serialAt s at) (placeAt s at) ≡ turnAt s terms t at
   unfolding turnAt
   is-send e = simp (eq-eqb (kindAt s at) 5 e)
 
-  pub is-deliver : kindAt s at ≡ 6 → deliver (placeAt s at) ≡ turnAt s site acquirer t at
+  pub is-deliver : kindAt s at ≡ 6 → deliver (placeAt s at) ≡ turnAt s terms t at
   unfolding turnAt
   is-deliver e = simp (ne-eqb (kindAt s at) 5 (λ z. omega arith), eq-eqb (kindAt s at) 6 e)
 
-  pub is-answer : kindAt s at ≡ 7 → answer (serialAt s at) ≡ turnAt s site acquirer t at
+  pub is-answer : kindAt s at ≡ 7 → answer (serialAt s at) ≡ turnAt s terms t at
   unfolding turnAt
   is-answer e = simp (ne-eqb (kindAt s at) 5 (λ z. omega arith), ne-eqb (kindAt s at) 6 (λ z. omega arith), eq-eqb (kindAt s at) 7 e)
 
-  pub is-own : (kindAt s at ≡ 5 → ⊥) → (kindAt s at ≡ 6 → ⊥) → (kindAt s at ≡ 7 → ⊥) → makes (ownAt s site acquirer t at) ≡ turnAt s site acquirer t at
+  pub is-own : (kindAt s at ≡ 5 → ⊥) → (kindAt s at ≡ 6 → ⊥) → (kindAt s at ≡ 7 → ⊥) → makes (ownAt s terms t at) ≡ turnAt s terms t at
   unfolding turnAt
   is-own a b c = simp (ne-eqb (kindAt s at) 5 a, ne-eqb (kindAt s at) 6 b, ne-eqb (kindAt s at) 7 c)
 
   -- the box's own call, where the record asks for a release and where it doesn't
-  pub passed-over : kindAt s at ≡ 2 → aside ≡ ownAt s site acquirer t at
+  pub passed-over : kindAt s at ≡ 2 → aside ≡ ownAt s terms t at
   unfolding ownAt
   passed-over e = simp (eq-eqb (kindAt s at) 2 e)
 
-  pub made-as-asked : (kindAt s at ≡ 2 → ⊥) → callAt s site acquirer t at ≡ ownAt s site acquirer t at
+  pub made-as-asked : (kindAt s at ≡ 2 → ⊥) → callAt s terms t at ≡ ownAt s terms t at
   unfolding ownAt
   made-as-asked n = simp (ne-eqb (kindAt s at) 2 n)
 

@@ -9,6 +9,7 @@ use Rattle.text.specs.Numbers.{u32At, put}
 use Rattle.reasons.specs.Reasons.{Outcome, gives, refuses, after}
 use Rattle.slots.specs.Views.{Seen}
 use Rattle.held.specs.Rules.{showRule}
+use Rattle.payer.specs.Payer.{Terms}
 use Rattle.history.specs.History.{Call, release, aside, AnswerTo, Does, Done}
 use Rattle.plays.specs.Script.{kindAt, serialAt, clockAt, callAt, scratchLeft, TotalsOf}
 use Rattle.ledger.specs.Ledger.{opened, Takes}
@@ -36,15 +37,15 @@ abbrev pub placeAt : List ℕ → ℕ → ℕ
 placeAt s at = u32At s (at + 16)
 
 -- the box's own call: a release that the script asks for is passed over
-unfoldable pub ownAt : List ℕ → List ℕ → List ℕ → List ℕ → ℕ → Call
-ownAt s site acquirer scratch at = cond (eqb (kindAt s at) 2) aside (callAt s site acquirer scratch at)
+unfoldable pub ownAt : List ℕ → Terms → List ℕ → ℕ → Call
+ownAt s terms scratch at = cond (eqb (kindAt s at) 2) aside (callAt s terms scratch at)
 
-unfoldable pub turnAt : List ℕ → List ℕ → List ℕ → List ℕ → ℕ → Turn
-turnAt s site acquirer scratch at =
+unfoldable pub turnAt : List ℕ → Terms → List ℕ → ℕ → Turn
+turnAt s terms scratch at =
     cond (eqb (kindAt s at) 5) (send (serialAt s at) (placeAt s at))
     (cond (eqb (kindAt s at) 6) (deliver (placeAt s at))
     (cond (eqb (kindAt s at) 7) (answer (serialAt s at))
-    (makes (ownAt s site acquirer scratch at))))
+    (makes (ownAt s terms scratch at))))
 
 -- ---- box, air and host
 
@@ -124,31 +125,31 @@ Turns v clock (deliver place) ds w = Hears v (messageAt (v .air) place) ds w
 Turns v clock (answer s) ds w = Answered (wasSent v s) v clock s ds w
 
 -- the first so many records of a script, run from the state v, are the calls ds and leave the state w
-pub data Runs (s site acquirer : List ℕ) (v : State) : ℕ → List Done → State → Type 0 where
-  no-record : Runs s site acquirer v zero [] v
-  one-more : {i : ℕ} {ds : List Done} {w x : State} (es : List Done) → Runs s site acquirer v i ds w
-      → Turns w (clockAt s (128 * i)) (turnAt s site acquirer (w .scratch) (128 * i)) es x → Runs s site acquirer v (suc i) (ds ++ es) x
+pub data Runs (s : List ℕ) (terms : Terms) (v : State) : ℕ → List Done → State → Type 0 where
+  no-record : Runs s terms v zero [] v
+  one-more : {i : ℕ} {ds : List Done} {w x : State} (es : List Done) → Runs s terms v i ds w
+      → Turns w (clockAt s (128 * i)) (turnAt s terms (w .scratch) (128 * i)) es x → Runs s terms v (suc i) (ds ++ es) x
 
 -- ---- the promises
 
 -- all records were run, from the state v: the sums are the host's ledger and the totals of the box's calls
-pub record RunsAll (s site acquirer : List ℕ) (v : State) (r : Sums) (u k b : List ℕ) : Type 0 where
+pub record RunsAll (s : List ℕ) (terms : Terms) (v : State) (r : Sums) (u k b : List ℕ) : Type 0 where
   pub done : List Done
   pub zero-sent : Bool
-  pub runs : Runs s site acquirer v (length s / 128) done (asState u k b (r .ledger) zero-sent)
+  pub runs : Runs s terms v (length s / 128) done (asState u k b (r .ledger) zero-sent)
   pub totals : TotalsOf done (r .totals)
 
 -- what running a script allows, by `scriptRule` for its length; a refusal changes nothing
-pub data Exchanges (s site acquirer t j a : List ℕ) (l : Ledger) : Outcome (Unit {0}) → Exchanged → List ℕ → List ℕ → List ℕ → Type 0 where
-  ran : {r : Sums} {u k b : List ℕ} → RunsAll s site acquirer (cleared t j a l) r u k b → Exchanges s site acquirer t j a l (gives tt) (Ran r) u k b
-  not-whole : Exchanges s site acquirer t j a l (refuses 6) NotWhole t j a
-  too-long : Exchanges s site acquirer t j a l (refuses 99) TooLong t j a
+pub data Exchanges (s : List ℕ) (terms : Terms) (t j a : List ℕ) (l : Ledger) : Outcome (Unit {0}) → Exchanged → List ℕ → List ℕ → List ℕ → Type 0 where
+  ran : {r : Sums} {u k b : List ℕ} → RunsAll s terms (cleared t j a l) r u k b → Exchanges s terms t j a l (gives tt) (Ran r) u k b
+  not-whole : Exchanges s terms t j a l (refuses 6) NotWhole t j a
+  too-long : Exchanges s terms t j a l (refuses 99) TooLong t j a
 
 -- from an empty journal of n slots and a fresh ledger: the calls that the script made are those of a course of events between box and host, which left
 -- this journal and this ledger, so that box and host agree; in numbers, the box has released no more than the host has taken, and the host has taken
 -- no more than was booked
-pub record Agreed (s site acquirer t a : List ℕ) (n : ℕ) (r : Sums) (u k b : List ℕ) : Type 0 where
-  pub all : RunsAll s site acquirer (cleared t (replicate (32 * n) 0) a opened) r u k b
+pub record Agreed (s : List ℕ) (terms : Terms) (t a : List ℕ) (n : ℕ) (r : Sums) (u k b : List ℕ) : Type 0 where
+  pub all : RunsAll s terms (cleared t (replicate (32 * n) 0) a opened) r u k b
   pub acts : List Act
   pub world : World
   pub course : Course (start n) acts (all .done) world
@@ -158,7 +159,7 @@ pub record Agreed (s site acquirer t a : List ℕ) (n : ℕ) (r : Sums) (u k b :
   pub counts : (r .totals .released ≤ r .ledger .taken) × (r .ledger .taken ≤ r .totals .booked)
   pub sums : (r .totals .remitted ≤ r .ledger .total) × (r .ledger .total ≤ r .totals .takings)
 
-abbrev pub Agrees : List ℕ → List ℕ → List ℕ → List ℕ → List ℕ → List ℕ → Ledger → Exchanged → List ℕ → List ℕ → List ℕ → Type 0
-Agrees s site acquirer t j a l (Ran r) u k b = (n : ℕ) → 1 ≤ n → n ≤ 2048 → j ≡ replicate (32 * n) 0 → l ≡ opened → Agreed s site acquirer t a n r u k b
-Agrees s site acquirer t j a l NotWhole u k b = Unit {0}
-Agrees s site acquirer t j a l TooLong u k b = Unit {0}
+abbrev pub Agrees : List ℕ → Terms → List ℕ → List ℕ → List ℕ → Ledger → Exchanged → List ℕ → List ℕ → List ℕ → Type 0
+Agrees s terms t j a l (Ran r) u k b = (n : ℕ) → 1 ≤ n → n ≤ 2048 → j ≡ replicate (32 * n) 0 → l ≡ opened → Agreed s terms t a n r u k b
+Agrees s terms t j a l NotWhole u k b = Unit {0}
+Agrees s terms t j a l TooLong u k b = Unit {0}

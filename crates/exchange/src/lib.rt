@@ -17,6 +17,7 @@ ghost use lib.ListN.{length, take, drop, replicate};
 ghost use Rattle.reasons.specs.Reasons.{after};
 ghost use Rattle.slots.specs.Views.{Seen};
 ghost use Rattle.held.specs.Rules.{showRule};
+ghost use Rattle.payer.specs.Payer.{terms};
 ghost use Rattle.plays.specs.Script.{serialAt, clockAt, Nothing, PlaysOne, scriptRule};
 ghost use Rattle.exchange.specs.Exchange.{asState, deliver, answer, ownAt, turnAt, posted, RunsAll, Exchanges, Agrees};
 ghost use Rattle.exchange.specs.Inner.{Took};
@@ -144,17 +145,20 @@ fn own_call(
     at: usize,
     site: &[u8],
     acquirer: &[u8],
+    hot: &[u64],
+    digits: u32,
     scratch: &mut [u8],
     journal: &mut [u8],
 ) -> Totals
     requires { ⌜ at + 128 ≤ length (now script) ⌝ }
-    ensures { λ r. ⌜ PlaysOne (ownAt (now (script .entry)) (now (site .entry)) (now (acquirer .entry)) (now (scratch .entry)) at)
+    ensures { λ r. ⌜ PlaysOne (ownAt (now (script .entry))
+        (terms (now (site .entry)) (now (acquirer .entry)) (now (hot .entry)) digits) (now (scratch .entry)) at)
         (clockAt (now (script .entry)) at) (now (scratch .entry)) (now (journal .entry)) r (now (scratch .exit)) (now (journal .exit)) ⌝ }
 {
     if script[at] == 2 {
         return counted(0, 0, 0, 1);
     }
-    play(script, at, site, acquirer, scratch, journal)
+    play(script, at, site, acquirer, hot, digits, scratch, journal)
 }
 
 // Takes the turn of the record at `at`.
@@ -163,6 +167,8 @@ fn turn(
     at: usize,
     site: &[u8],
     acquirer: &[u8],
+    hot: &[u64],
+    digits: u32,
     scratch: &mut [u8],
     journal: &mut [u8],
     air: &mut [u8],
@@ -171,7 +177,8 @@ fn turn(
 ) -> Step
     requires { ⌜ at + 128 ≤ length (now script) ⌝ }
     ensures { λ r. ⌜ Took (asState (now (scratch .entry)) (now (journal .entry)) (now (air .entry)) ledger zero) (clockAt (now (script .entry)) at)
-        (turnAt (now (script .entry)) (now (site .entry)) (now (acquirer .entry)) (now (scratch .entry)) at)
+        (turnAt (now (script .entry)) (terms (now (site .entry)) (now (acquirer .entry)) (now (hot .entry)) digits)
+        (now (scratch .entry)) at)
         r (now (scratch .exit)) (now (journal .exit)) (now (air .exit)) ⌝ }
 {
     let kind = script[at];
@@ -193,7 +200,7 @@ fn turn(
     Step {
         ledger,
         zero,
-        totals: own_call(script, at, site, acquirer, scratch, journal),
+        totals: own_call(script, at, site, acquirer, hot, digits, scratch, journal),
     }
 }
 
@@ -203,13 +210,15 @@ fn run_all(
     script: &[u8],
     site: &[u8],
     acquirer: &[u8],
+    hot: &[u64],
+    digits: u32,
     scratch: &mut [u8],
     journal: &mut [u8],
     air: &mut [u8],
     ledger: Ledger,
 ) -> Sums
     requires { ⌜ (length (now script) % 128 ≡ 0) × (length (now script) / 128 ≤ 1048576) ⌝ }
-    ensures { λ r. ⌜ RunsAll (now (script .entry)) (now (site .entry)) (now (acquirer .entry))
+    ensures { λ r. ⌜ RunsAll (now (script .entry)) (terms (now (site .entry)) (now (acquirer .entry)) (now (hot .entry)) digits)
         (asState (now (scratch .entry)) (now (journal .entry)) (now (air .entry)) ledger false)
         r (now (scratch .exit)) (now (journal .exit)) (now (air .exit)) ⌝ }
 {
@@ -224,6 +233,8 @@ fn run_all(
             128 * i,
             site,
             acquirer,
+            hot,
+            digits,
             scratch,
             journal,
             air,
@@ -241,20 +252,23 @@ fn run_all(
     }
 }
 
-// Runs a script on the lent tables, scratch and journal, with the air between the journal's box and the host of the ledger, and answers what it came to.
+// Runs a script on the lent tables, hot list, scratch and journal, with the air between the journal's box and the host of the ledger, and answers
+// what it came to.
 pub fn run(
     script: &[u8],
     site: &[u8],
     acquirer: &[u8],
+    hot: &[u64],
+    digits: u32,
     scratch: &mut [u8],
     journal: &mut [u8],
     air: &mut [u8],
     ledger: Ledger,
 ) -> Exchanged
-    ensures { λ r. ⌜ Exchanges (now (script .entry)) (now (site .entry)) (now (acquirer .entry))
+    ensures { λ r. ⌜ Exchanges (now (script .entry)) (terms (now (site .entry)) (now (acquirer .entry)) (now (hot .entry)) digits)
         (now (scratch .entry)) (now (journal .entry)) (now (air .entry)) ledger
         (scriptRule (now (script .entry))) r (now (scratch .exit)) (now (journal .exit)) (now (air .exit)) ⌝ }
-    ensures { λ r. ⌜ Agrees (now (script .entry)) (now (site .entry)) (now (acquirer .entry))
+    ensures { λ r. ⌜ Agrees (now (script .entry)) (terms (now (site .entry)) (now (acquirer .entry)) (now (hot .entry)) digits)
         (now (scratch .entry)) (now (journal .entry)) (now (air .entry)) ledger
         r (now (scratch .exit)) (now (journal .exit)) (now (air .exit)) ⌝ }
 {
@@ -266,5 +280,15 @@ pub fn run(
         return Exchanged::TooLong;
     }
     clear(air);
-    Exchanged::Ran(run_all(script, site, acquirer, scratch, journal, air, ledger))
+    Exchanged::Ran(run_all(
+        script,
+        site,
+        acquirer,
+        hot,
+        digits,
+        scratch,
+        journal,
+        air,
+        ledger,
+    ))
 }

@@ -1,5 +1,5 @@
-// Card numbers: gw_pan_mask, gw_range_find.
-ghost use Rattle.c_numbers.specs.Calls.{PanMasks, RangeFinds};
+// Card numbers: gw_pan_mask, gw_range_find, gw_hot_find.
+ghost use Rattle.c_numbers.specs.Calls.{PanMasks, RangeFinds, HotFinds};
 
 #[no_mangle]
 pub extern "C" fn gw_pan_mask(pan: &[u8], out: &mut [u8]) -> u32
@@ -20,4 +20,11 @@ pub extern "C" fn gw_range_find(
         (now (table .entry), now (at .entry)) r (now (table .exit), now (at .exit)) ⌝ }
 {
     c_numbers::range_find(site, acquirer, pan, table, at)
+}
+
+#[no_mangle]
+pub extern "C" fn gw_hot_find(list: &[u64], digits: u32, pan: &[u8], listed: &mut u32) -> u32
+    ensures { λ r. ⌜ HotFinds (now (list .entry)) digits (now (pan .entry)) (now (listed .entry)) r (now (listed .exit)) ⌝ }
+{
+    c_numbers::hot_find(list, digits, pan, listed)
 }

@@ -1,7 +1,7 @@
 // The swipes: gw_swipe, gw_swipe1.
 use layout::Track;
 ghost use Rattle.layout.specs.declared.Track.the-variants.{Two, One};
-ghost use Rattle.payer.specs.Payer.{given};
+ghost use Rattle.payer.specs.Payer.{terms, given};
 ghost use Rattle.c_box.specs.Calls.{Swipes};
 
 #[no_mangle]
@@ -10,13 +10,15 @@ pub extern "C" fn gw_swipe(
     bits: u64,
     site: &[u8],
     acquirer: &[u8],
+    hot: &[u64],
+    digits: u32,
     amount: u32,
     clock: u32,
     scratch: &mut [u8],
     journal: &mut [u8],
     serial: &mut u32,
 ) -> u32
-    ensures { λ r. ⌜ Swipes (given Two (now (stream .entry)) bits (now (site .entry)) (now (acquirer .entry))) amount clock
+    ensures { λ r. ⌜ Swipes (given Two (now (stream .entry)) bits (terms (now (site .entry)) (now (acquirer .entry)) (now (hot .entry)) digits)) amount clock
         (now (scratch .entry)) (now (journal .entry)) (now (serial .entry)) r (now (serial .exit)) (now (scratch .exit)) (now (journal .exit)) ⌝ }
 {
     c_box::swipe(
@@ -25,6 +27,8 @@ pub extern "C" fn gw_swipe(
         bits,
         site,
         acquirer,
+        hot,
+        digits,
         amount,
         clock,
         scratch,
@@ -39,13 +43,15 @@ pub extern "C" fn gw_swipe1(
     bits: u64,
     site: &[u8],
     acquirer: &[u8],
+    hot: &[u64],
+    digits: u32,
     amount: u32,
     clock: u32,
     scratch: &mut [u8],
     journal: &mut [u8],
     serial: &mut u32,
 ) -> u32
-    ensures { λ r. ⌜ Swipes (given One (now (stream .entry)) bits (now (site .entry)) (now (acquirer .entry))) amount clock
+    ensures { λ r. ⌜ Swipes (given One (now (stream .entry)) bits (terms (now (site .entry)) (now (acquirer .entry)) (now (hot .entry)) digits)) amount clock
         (now (scratch .entry)) (now (journal .entry)) (now (serial .entry)) r (now (serial .exit)) (now (scratch .exit)) (now (journal .exit)) ⌝ }
 {
     c_box::swipe(
@@ -54,6 +60,8 @@ pub extern "C" fn gw_swipe1(
         bits,
         site,
         acquirer,
+        hot,
+        digits,
         amount,
         clock,
         scratch,

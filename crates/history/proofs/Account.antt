@@ -1,5 +1,4 @@
 -- The account of calls made on a journal: what was held and then what they booked is what they released and then what is held.
---
 use Prim.Native.Nat.{ℕ, zero, suc, max, _≤_, _<_, _+_, _-_}
 use mathlib.Core.Path.{_≡_, refl, sym, ap, _∙_, subst, subst⁻¹}
 use mathlib.Core.List.{List, [], _∷_, _++_, map, append-assoc, append-nil}

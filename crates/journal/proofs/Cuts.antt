@@ -1,5 +1,4 @@
 -- A power cut while a call's changed bytes are copied, in the order of its writes, to memory that outlives the power: after any number of them.
---
 use Prim.Native.Nat.{ℕ, zero, suc, _≤_, _<_, _+_, _-_, _*_, _/_, _%_}
 use mathlib.Core.Path.{_≡_, refl, sym, ap, _∙_, subst, subst⁻¹}
 use mathlib.Core.Bool.{Bool, true, false, cond}

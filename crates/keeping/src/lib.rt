@@ -1,9 +1,11 @@
-// The commands that keep something from line to line: the tables, the journal, the host's ledger.
+// The commands that keep something from line to line: the tables, the hot list, the journal, the host's ledger.
 use checks::tables;
+use hotcards::Kept;
 use journals::memory;
 use ledger::Ledger;
 use menu::Changing;
 use menu::Filling;
+use menu::OnHot;
 use menu::OnLedger;
 use menu::OnTables;
 use payments::Place;
@@ -18,6 +20,8 @@ pub struct State {
     pub site: usize,
     pub acquirer: usize,
     pub length: usize,
+    // how many numbers of the hot list's buffer are in use, and their PAN length
+    pub hot: Kept,
     // whether the journal is a file, its descriptor, whether that is for reading alone, and whether it can't be used any more
     pub filed: bool,
     pub fd: i32,
@@ -30,7 +34,7 @@ pub struct State {
     pub prompt: bool,
 }
 
-// No tables, an empty journal of 2,048 slots in memory, and a fresh ledger.
+// No tables, an empty hot list, an empty journal of 2,048 slots in memory, and a fresh ledger.
 pub fn in_memory(shown: bool) -> State
     ensures { λ r. ⌜ (r .site ≤ 0) × (r .acquirer ≤ 0) × (r .length ≤ 65536) ⌝ }
 {
@@ -38,6 +42,7 @@ pub fn in_memory(shown: bool) -> State
         site: 0,
         acquirer: 0,
         length: 65536,
+        hot: hotcards::none(),
         filed: false,
         fd: -1,
         read_only: false,
@@ -78,6 +83,24 @@ pub fn on_tables(
                 text::piece(acquirer, 0, a),
                 pan,
             );
+            next
+        }
+    }
+}
+
+// ---- the hot list
+
+pub fn on_hot(out: &mut [u8], c: OnHot, line: &[u8], hot: &mut [u64; 8192], st: State) -> State {
+    let kept = st.hot;
+    let mut next = st;
+    match c {
+        OnHot::List => {
+            next.hot = hotcards::take_in(out, line, hot, kept);
+            next
+        }
+        OnHot::Listed => {
+            let pan = script::text_of(script::word(line, 1));
+            hotcards::listed(out, hotcards::in_use(hot, kept.count), kept.digits, pan);
             next
         }
     }
@@ -135,12 +158,24 @@ fn change_in(
     line: &[u8],
     site: &[u8],
     acquirer: &[u8],
+    hot: &[u64],
+    digits: u32,
     journal: &mut [u8],
     at: Place,
 ) -> bool {
     match c {
         Changing::Book => payments::book(out, line, journal, at),
-        Changing::Swipe(t) => payments::swipe(out, t, line, site, acquirer, journal, at),
+        Changing::Swipe(t) => payments::swipe(
+            out,
+            t,
+            line,
+            site,
+            acquirer,
+            hot,
+            digits,
+            journal,
+            at,
+        ),
         Changing::Release => payments::release(out, line, journal, at),
     }
 }
@@ -162,6 +197,7 @@ pub fn change(
     line: &[u8],
     site: &[u8],
     acquirer: &[u8],
+    hot: &[u64],
     journal: &mut [u8],
     st: State,
 ) -> State {
@@ -172,6 +208,7 @@ pub fn change(
         filed: st.filed,
         fd: st.fd,
     };
+    let kept = st.hot;
     let n = in_use(journal, st.length);
     let usable = change_in(
         out,
@@ -179,6 +216,8 @@ pub fn change(
         line,
         text::piece(site, 0, st.site),
         text::piece(acquirer, 0, st.acquirer),
+        hotcards::in_use(hot, kept.count),
+        kept.digits,
         &mut journal[0..n],
         at,
     );

@@ -5,6 +5,7 @@ use layout::Track;
 use ranges::Found;
 use samples::E1;
 use samples::EVERY;
+use samples::NONE;
 use samples::W11;
 use swipe::Swiped;
 
@@ -81,6 +82,7 @@ fn reads(out: &mut [u8; 4096]) {
 
 fn swiped(track: Track, stream: &[u8], bits: u64, scratch: &mut [u8]) -> Swiped {
     let every = EVERY;
+    let none = NONE;
     let mut journal = [0u8; 32];
     swipe::swipe(
         track,
@@ -88,6 +90,8 @@ fn swiped(track: Track, stream: &[u8], bits: u64, scratch: &mut [u8]) -> Swiped 
         bits,
         &every,
         b"",
+        &none,
+        16,
         250,
         0,
         scratch,

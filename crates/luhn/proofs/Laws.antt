@@ -1,5 +1,4 @@
 -- What Luhn promises, each law under the paper's sentence: made digits pass, what is found, what is not, and that each call has one answer.
---
 use mathlib.Core.Path.{_≡_, refl, sym, ap, _∙_}
 use mathlib.Core.Bool.{Bool, true, false, not}
 use mathlib.Core.List.{List, [], _∷_, _++_}

@@ -1,7 +1,7 @@
--- What the stripe says of a card, step by step: the reading, the layout, Luhn and the look-up.
+-- What the stripe says of a card, step by step: the reading, the layout, Luhn, the look-up and the hot list.
 use Prim.Native.Nat.{ℕ, zero, suc, _+_, _-_, _≤_}
 use mathlib.Core.Path.{_≡_, refl, sym, ap, _∙_, subst}
-use mathlib.Core.Bool.{Bool, true, false}
+use mathlib.Core.Bool.{Bool, true, false, not}
 use mathlib.Core.List.{List, [], _∷_, _++_}
 use native.Mathlib.Omega.{arith}
 use native.Mathlib.Nat.{add-sub-cancel-left}
@@ -17,6 +17,7 @@ use Rattle.reasons.proofs.Laws.{passed, went-on, gives-refuses}
 use Rattle.luhn.specs.Luhn.{passes, luhnRule}
 use Rattle.pan.specs.Pan.{panLength}
 use Rattle.ranges.specs.Ranges.{labelRule}
+use Rattle.hotlist.specs.Hotlist.{listed}
 use Rattle.chars.specs.Reading.{Format}
 use Rattle.bits.specs.Reading.{Track as Read, readRule, readBytes, counted}
 use Rattle.bits.proofs.Laws.{chars-fit}
@@ -27,7 +28,7 @@ use Rattle.layout.specs.declared.Track.the-variants.{Two, One}
 use Rattle.layout.proofs.Laws as layout
 use Rattle.layout1.specs.Layout1.{layout1Rule}
 use Rattle.layout1.proofs.Laws as layout1
-use Rattle.payer.specs.Payer.{format, divisionRule, room, Given, Payer, payerRule, partOf, charsRule, cardRule, saidCard, panEnd, PanAt}
+use Rattle.payer.specs.Payer.{format, divisionRule, room, Terms, Given, Payer, payerRule, partOf, charsRule, cardRule, saidCard, panEnd, PanAt}
 use Rattle.payer.specs.declared.Card.{Card}
 use Rattle.payer.specs.declared.Card.the-variants.{Pays, Refused}
 
@@ -58,35 +59,40 @@ stopped-alike : (b : Bool) (m n : ℕ) (o : Outcome Payer) → _≡_ {A = Outcom
 stopped-alike true m n o e = gives-refuses tt n e
 stopped-alike false m n o e = cc
 
-module _ (site acquirer pan : List ℕ) (l : panLength (length pan) ≡ true) (d : allDigits pan ≡ true) where
+module _ (t : Terms) (pan : List ℕ) (l : panLength (length pan) ≡ true) (d : allDigits pan ≡ true) where
   -- of a card number Luhn asks only whether it passes
   luhn-of-pan : luhnRule pan ≡ demand (passes pan) 4 (gives tt)
   unfolding luhnRule
   luhn-of-pan = let w = inside-is 13 19 (length pan) l in simp (inside 2 40 (length pan) (omega arith) (omega arith), d)
 
-  pub luhn-refused : (n : ℕ) → luhnRule pan ≡ refuses n → payerRule site acquirer pan ≡ refuses n
+  pub luhn-refused : (n : ℕ) → luhnRule pan ≡ refuses n → payerRule t pan ≡ refuses n
   unfolding payerRule
   luhn-refused n e = stopped-alike (passes pan) 4 n _ (sym luhn-of-pan ∙ e)
 
   luhn-passed : luhnRule pan ≡ gives tt → passes pan ≡ true
   luhn-passed e = passed (passes pan) 4 (gives tt) tt (sym luhn-of-pan ∙ e) .0
 
-  pub no-label : (n : ℕ) → luhnRule pan ≡ gives tt → labelRule site acquirer pan ≡ refuses n → payerRule site acquirer pan ≡ refuses n
+  pub no-label : (n : ℕ) → luhnRule pan ≡ gives tt → labelRule (t .site) (t .acquirer) pan ≡ refuses n → payerRule t pan ≡ refuses n
   unfolding payerRule
   no-label n e f = simp (luhn-passed e, f)
 
-  pub with-label : (x : ℕ) → luhnRule pan ≡ gives tt → labelRule site acquirer pan ≡ gives x
-      → payerRule site acquirer pan ≡ gives (record { pan = pan; label = x })
-  unfolding payerRule
-  with-label x e f = simp (luhn-passed e, f)
+  module _ (x : ℕ) (e : luhnRule pan ≡ gives tt) (f : labelRule (t .site) (t .acquirer) pan ≡ gives x) where
+    pub is-listed : listed (t .hot) (t .digits) pan ≡ true → payerRule t pan ≡ refuses 22
+    unfolding payerRule
+    is-listed h = simp (luhn-passed e, f, h)
+
+    pub with-label : listed (t .hot) (t .digits) pan ≡ false → payerRule t pan ≡ gives (record { pan = pan; label = x })
+    unfolding payerRule
+    with-label h = simp (luhn-passed e, f, h)
 
 -- a PAN that pays passes, and is the PAN that was asked about
-pan-pays : (site acquirer pan : List ℕ) (p : Payer) → payerRule site acquirer pan ≡ gives p → (passes pan ≡ true) × (p .pan ≡ pan)
+pan-pays : (t : Terms) (pan : List ℕ) (p : Payer) → payerRule t pan ≡ gives p → (passes pan ≡ true) × (p .pan ≡ pan)
 unfolding payerRule
-pan-pays site acquirer pan p e =
+pan-pays t pan p e =
     let a = passed (passes pan) 4 _ p e in
-    let b = went-on (labelRule site acquirer pan) _ p (a .1) in
-    let c : record { pan = pan; label = b .0 } ≡ p = cc (b .2) in
+    let b = went-on (labelRule (t .site) (t .acquirer) pan) _ p (a .1) in
+    let h = passed (not (listed (t .hot) (t .digits) pan)) 22 _ p (b .2) in
+    let c : record { pan = pan; label = b .0 } ≡ p = cc (h .1) in
     (a .0, sym (ap (λ (q : Payer). q .pan) c))
 
 -- a card number that passes, as the journal asks of one that it books (`Fine` there)
@@ -112,22 +118,22 @@ pan-there One chars c e =
     subst (λ (x : Cut). PanAt chars (x .start) (x .size)) z
     (record { fits = layout1.pan-fits chars (a .0) (a .1); count = f .pan-length; digits = f .pan-digits })
 
-module _ (k : Track) (site acquirer chars : List ℕ) where
-  pub bad-layout : (n : ℕ) → divisionRule k chars ≡ refuses n → charsRule k site acquirer chars ≡ refuses n
+module _ (k : Track) (t : Terms) (chars : List ℕ) where
+  pub bad-layout : (n : ℕ) → divisionRule k chars ≡ refuses n → charsRule k t chars ≡ refuses n
   unfolding charsRule
   bad-layout n e = rw e
 
   pub with-pan : (a n : ℕ) → divisionRule k chars ≡ gives (record { start = a; size = n })
-      → charsRule k site acquirer chars ≡ payerRule site acquirer (partOf chars a n)
+      → charsRule k t chars ≡ payerRule t (partOf chars a n)
   unfolding charsRule
   with-pan a n e = rw e
 
-  chars-pay : (p : Payer) → charsRule k site acquirer chars ≡ gives p → Passing (p .pan)
+  chars-pay : (p : Payer) → charsRule k t chars ≡ gives p → Passing (p .pan)
   unfolding charsRule
   chars-pay p e =
       let a = went-on (divisionRule k chars) _ p e in
       let l = pan-there k chars (a .0) (a .1) in
-      let b = pan-pays site acquirer (partOf chars (a .0 .start) (a .0 .size)) p (a .2) in
+      let b = pan-pays t (partOf chars (a .0 .start) (a .0 .size)) p (a .2) in
       subst Passing (sym (b .1)) (record { count = l .count; digits = l .digits; sum = b .0 })
 
 -- ---- of the stripe
@@ -152,11 +158,11 @@ rest-stays out vs m h =
 -- n characters were read into the scratch, `out` before and `new` after it
 pub record ReadSo (g : Given) (out new : List ℕ) (n : ℕ) : Type 0 where
   pub fits : n ≤ length new
-  pub goes : charsRule (g .track) (g .site) (g .acquirer) (take n new) ≡ cardRule g
+  pub goes : charsRule (g .track) (g .terms) (take n new) ≡ cardRule g
   pub rest : drop (room (g .track)) new ≡ drop (room (g .track)) out
 
 pub read-card : (g : Given) (out new : List ℕ) (n : ℕ) (r : Card) → ReadSo g out new n
-    → saidCard r (take n new) ≡ charsRule (g .track) (g .site) (g .acquirer) (take n new) → panEnd r ≤ length (take n new)
+    → saidCard r (take n new) ≡ charsRule (g .track) (g .terms) (take n new) → panEnd r ≤ length (take n new)
     → (saidCard r new ≡ cardRule g) × (panEnd r ≤ length new) × (drop (room (g .track)) new ≡ drop (room (g .track)) out)
 read-card g out new n r s e h =
     let k = length-take-le n new (s .fits) in
@@ -182,7 +188,7 @@ module _ (g : Given) (out new : List ℕ) (long : room (g .track) ≤ length out
       let front : take n new ≡ t .chars = ap (take n) now ∙ ap (λ (m : ℕ). take m (put out 0 (t .chars))) c ∙ put-front out (t .chars) in
       record {
         fits = omega arith;
-        goes = ap (charsRule (g .track) (g .site) (g .acquirer)) front ∙ rw f;
+        goes = ap (charsRule (g .track) (g .terms)) front ∙ rw f;
         rest = ap (drop (room (g .track))) now ∙ rest-stays out (t .chars) (room (g .track)) few;
       }
 
@@ -196,4 +202,4 @@ pub card-pays : (g : Given) (p : Payer) → cardRule g ≡ gives p → Passing (
 unfolding cardRule
 card-pays g p e =
     let a = went-on (readRule (format (g .track)) (g .stream) (g .bits) (room (g .track))) _ p e in
-    chars-pay (g .track) (g .site) (g .acquirer) (a .0 .chars) p (a .2)
+    chars-pay (g .track) (g .terms) (a .0 .chars) p (a .2)

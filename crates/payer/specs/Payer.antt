@@ -1,14 +1,16 @@
--- Who pays: the card number that a stripe says, and the label of its range (document 01, 'The swipe'; request E1, for cards on track 1).
+-- Who pays: the card number that a stripe says, and the label of its range (document 01, 'The swipe'; requests E1, for cards on track 1, and E8,
+-- for blocked cards).
 use Prim.Native.Nat.{ℕ, _+_, _-_, _≤_}
 use mathlib.Core.Path.{_≡_}
-use mathlib.Core.Bool.{true}
+use mathlib.Core.Bool.{true, not}
 use mathlib.Core.List.{List}
 use lib.ListN.{length, take, drop}
 use Rattle.text.specs.Bytes.{allDigits}
 use Rattle.reasons.specs.Reasons.{Outcome, gives, refuses, demand, andThen, numberOf}
 use Rattle.luhn.specs.Luhn.{passes}
 use Rattle.pan.specs.Pan.{panLength}
-use Rattle.ranges.specs.Ranges.{labelRule}
+use Rattle.ranges.specs.Ranges.{tableOk, labelRule}
+use Rattle.hotlist.specs.Hotlist.{listOk, listed}
 use Rattle.chars.specs.Reading.{Format}
 use Rattle.bits.specs.Reading.{readRule}
 use Rattle.track1.specs.Track1.{track1}
@@ -40,42 +42,58 @@ divisionRule One chars = andThen (layout1Rule chars) (λ d. gives (record { star
 abbrev pub room : Track → ℕ
 room k = format k .limit - 2
 
--- what a card is told from: the track, the stream and its bit count, both tables
+-- on what terms a card pays: both tables, and the hot list beside its PAN length
+pub record Terms : Type 0 where
+  pub site : List ℕ
+  pub acquirer : List ℕ
+  pub hot : List ℕ
+  pub digits : ℕ
+
+abbrev pub terms : List ℕ → List ℕ → List ℕ → ℕ → Terms
+terms i a h n = record { site = i; acquirer = a; hot = h; digits = n }
+
+-- what the box's tests have shown of the terms before a card is read
+pub record Sound (t : Terms) : Type 0 where
+  pub site-right : tableOk (t .site) ≡ true
+  pub acquirer-right : tableOk (t .acquirer) ≡ true
+  pub hot-right : listOk (t .hot) (t .digits) ≡ true
+
+-- what a card is told from: the track, the stream and its bit count, the terms
 pub record Given : Type 0 where
   pub track : Track
   pub stream : List ℕ
   pub bits : ℕ
-  pub site : List ℕ
-  pub acquirer : List ℕ
+  pub terms : Terms
 
-abbrev pub given : Track → List ℕ → ℕ → List ℕ → List ℕ → Given
-given k s n i a = record { track = k; stream = s; bits = n; site = i; acquirer = a }
+abbrev pub given : Track → List ℕ → ℕ → Terms → Given
+given k s n t = record { track = k; stream = s; bits = n; terms = t }
 
 -- what a swipe makes of it: the PAN, and the label of its range
 pub record Payer : Type 0 where
   pub pan : List ℕ
   pub label : ℕ
 
--- of a PAN: "Luhn 4, 15"
-unfoldable pub payerRule : List ℕ → List ℕ → List ℕ → Outcome Payer
-payerRule site acquirer pan =
+-- of a PAN: "Luhn 4, 15", and 22, "the last check before booking"
+unfoldable pub payerRule : Terms → List ℕ → Outcome Payer
+payerRule t pan =
     demand (passes pan) 4
-    (andThen (labelRule site acquirer pan)
-    (λ l. gives (record { pan = pan; label = l })))
+    (andThen (labelRule (t .site) (t .acquirer) pan)
+    (λ l. demand (not (listed (t .hot) (t .digits) pan)) 22
+    (gives (record { pan = pan; label = l }))))
 
 -- the n characters from a place on
 abbrev pub partOf : List ℕ → ℕ → ℕ → List ℕ
 partOf chars a n = take n (drop a chars)
 
 -- of the characters between the sentinels: "layout 6", then their PAN
-unfoldable pub charsRule : Track → List ℕ → List ℕ → List ℕ → Outcome Payer
-charsRule k site acquirer chars = andThen (divisionRule k chars) (λ c. payerRule site acquirer (partOf chars (c .start) (c .size)))
+unfoldable pub charsRule : Track → Terms → List ℕ → Outcome Payer
+charsRule k t chars = andThen (divisionRule k chars) (λ c. payerRule t (partOf chars (c .start) (c .size)))
 
 -- of the stripe: "the reading's refusals", with an output that is long enough, then the characters
 unfoldable pub cardRule : Given → Outcome Payer
 cardRule g =
     andThen (readRule (format (g .track)) (g .stream) (g .bits) (room (g .track)))
-    (λ t. charsRule (g .track) (g .site) (g .acquirer) (t .chars))
+    (λ t. charsRule (g .track) (g .terms) (t .chars))
 
 -- ---- what the answers say in the paper's terms
 

@@ -1,16 +1,15 @@
-// The card that pays: from the stripe to a card number and the label of its range. For the crates above: all of it is inner.
+// The card that pays: from the stripe to a card number that isn't blocked and the label of its range. For the crates above: all of it is inner.
 use bits::Read;
 use layout::Track;
 use ranges::inner::Labelled;
 use reasons::Reason;
 use reasons::Tested;
 ghost use mathlib.Core.Path.{_≡_};
-ghost use mathlib.Core.Bool.{true};
 ghost use Prim.Native.Nat.{_≤_};
 ghost use lib.ListN.{length, drop};
-ghost use Rattle.ranges.specs.Ranges.{tableOk};
 ghost use Rattle.bits.specs.Reading.{readRule, readBytes, said, counted};
-ghost use Rattle.payer.specs.Payer.{format, divisionRule, room, given, payerRule, partOf, charsRule, cardRule, saidSpot, saidCard, panEnd, PanAt};
+ghost use Rattle.payer.specs.Payer.{format, divisionRule, room, terms, Sound, given, payerRule, partOf, charsRule, cardRule};
+ghost use Rattle.payer.specs.Payer.{saidSpot, saidCard, panEnd, PanAt};
 
 // ---- the tracks that a swipe reads, and what differs between them
 
@@ -76,11 +75,19 @@ pub enum Card {
     Refused(Reason),
 }
 
-// Luhn and the look-up, of the n digits from `at`.
-fn card_of_pan(chars: &[u8], at: usize, n: usize, site: &[u8], acquirer: &[u8]) -> Card
-    requires { ⌜ (tableOk (now site) ≡ true) × (tableOk (now acquirer) ≡ true) × PanAt (now chars) at n ⌝ }
-    ensures { λ r. ⌜ (saidCard r (now (chars .entry)) ≡ payerRule (now (site .entry)) (now (acquirer .entry)) (partOf (now (chars .entry)) at n))
-        × (panEnd r ≤ length (now (chars .entry))) ⌝ }
+// Luhn, the look-up and the hot list, of the n digits from `at`.
+fn card_of_pan(
+    chars: &[u8],
+    at: usize,
+    n: usize,
+    site: &[u8],
+    acquirer: &[u8],
+    hot: &[u64],
+    digits: u32,
+) -> Card
+    requires { ⌜ Sound (terms (now site) (now acquirer) (now hot) digits) × PanAt (now chars) at n ⌝ }
+    ensures { λ r. ⌜ (saidCard r (now (chars .entry)) ≡ payerRule (terms (now (site .entry)) (now (acquirer .entry)) (now (hot .entry)) digits)
+        (partOf (now (chars .entry)) at n)) × (panEnd r ≤ length (now (chars .entry))) ⌝ }
 {
     let end = at + n;
     let pan = &chars[at..end];
@@ -88,20 +95,32 @@ fn card_of_pan(chars: &[u8], at: usize, n: usize, site: &[u8], acquirer: &[u8]) 
         Tested::Refused(r) => Card::Refused(r),
         Tested::Passes => match ranges::inner::label_tested(site, acquirer, pan) {
             Labelled::Refused(r) => Card::Refused(r),
-            Labelled::Label(l) => Card::Pays(at, n, l),
+            Labelled::Label(l) => {
+                if hotlist::inner::is_listed(hot, digits, pan) {
+                    return Card::Refused(Reason::ListedCard);
+                }
+                Card::Pays(at, n, l)
+            }
         },
     }
 }
 
 // The layout of the characters, then their PAN.
-fn card_of_chars(track: Track, chars: &[u8], site: &[u8], acquirer: &[u8]) -> Card
-    requires { ⌜ (tableOk (now site) ≡ true) × (tableOk (now acquirer) ≡ true) ⌝ }
-    ensures { λ r. ⌜ (saidCard r (now (chars .entry)) ≡ charsRule track (now (site .entry)) (now (acquirer .entry)) (now (chars .entry)))
-        × (panEnd r ≤ length (now (chars .entry))) ⌝ }
+fn card_of_chars(
+    track: Track,
+    chars: &[u8],
+    site: &[u8],
+    acquirer: &[u8],
+    hot: &[u64],
+    digits: u32,
+) -> Card
+    requires { ⌜ Sound (terms (now site) (now acquirer) (now hot) digits) ⌝ }
+    ensures { λ r. ⌜ (saidCard r (now (chars .entry)) ≡ charsRule track (terms (now (site .entry)) (now (acquirer .entry)) (now (hot .entry)) digits)
+        (now (chars .entry))) × (panEnd r ≤ length (now (chars .entry))) ⌝ }
 {
     match pan_spot(track, chars) {
         Spot::Refused(r) => Card::Refused(r),
-        Spot::Stands(at, n) => card_of_pan(chars, at, n, site, acquirer),
+        Spot::Stands(at, n) => card_of_pan(chars, at, n, site, acquirer, hot, digits),
     }
 }
 
@@ -112,15 +131,18 @@ pub fn card_of_stripe(
     bits: u64,
     site: &[u8],
     acquirer: &[u8],
+    hot: &[u64],
+    digits: u32,
     scratch: &mut [u8],
 ) -> Card
-    requires { ⌜ (room track ≤ length (now scratch)) × (tableOk (now site) ≡ true) × (tableOk (now acquirer) ≡ true) ⌝ }
-    ensures { λ r. ⌜ (saidCard r (now (scratch .exit)) ≡ cardRule (given track (now (stream .entry)) bits (now (site .entry)) (now (acquirer .entry))))
+    requires { ⌜ (room track ≤ length (now scratch)) × Sound (terms (now site) (now acquirer) (now hot) digits) ⌝ }
+    ensures { λ r. ⌜ (saidCard r (now (scratch .exit)) ≡ cardRule (given track (now (stream .entry)) bits
+        (terms (now (site .entry)) (now (acquirer .entry)) (now (hot .entry)) digits)))
         × (panEnd r ≤ length (now (scratch .exit))) × (drop (room track) (now (scratch .exit)) ≡ drop (room track) (now (scratch .entry))) ⌝ }
 {
     match read(track, stream, bits, scratch) {
         Read::Refused(r) => Card::Refused(r),
-        Read::Forward(n) => card_of_chars(track, &scratch[..n], site, acquirer),
-        Read::Reversed(n) => card_of_chars(track, &scratch[..n], site, acquirer),
+        Read::Forward(n) => { card_of_chars(track, &scratch[..n], site, acquirer, hot, digits) }
+        Read::Reversed(n) => { card_of_chars(track, &scratch[..n], site, acquirer, hot, digits) }
     }
 }

@@ -120,8 +120,9 @@ fn swipe_in(
     bits: u64,
     site: &[u8],
     acquirer: &[u8],
-    amount: u32,
-    clock: u32,
+    hot: &[u64],
+    digits: u32,
+    sale: Sale,
     journal: &mut [u8],
     at: Place,
 ) -> bool {
@@ -133,8 +134,10 @@ fn swipe_in(
         bits,
         site,
         acquirer,
-        amount,
-        clock,
+        hot,
+        digits,
+        sale.amount,
+        sale.clock,
         &mut scratch,
         journal,
     ) {
@@ -152,6 +155,8 @@ fn swipe_stream(
     line: &[u8],
     site: &[u8],
     acquirer: &[u8],
+    hot: &[u64],
+    digits: u32,
     stream: &mut [u8],
     journal: &mut [u8],
     at: Place,
@@ -179,8 +184,9 @@ fn swipe_stream(
         bits.value,
         site,
         acquirer,
-        sale.amount,
-        sale.clock,
+        hot,
+        digits,
+        sale,
         journal,
         at,
     )
@@ -192,11 +198,24 @@ pub fn swipe(
     line: &[u8],
     site: &[u8],
     acquirer: &[u8],
+    hot: &[u64],
+    digits: u32,
     journal: &mut [u8],
     at: Place,
 ) -> bool {
     let mut stream = [0u8; 70000];
-    swipe_stream(out, track, line, site, acquirer, &mut stream, journal, at)
+    swipe_stream(
+        out,
+        track,
+        line,
+        site,
+        acquirer,
+        hot,
+        digits,
+        &mut stream,
+        journal,
+        at,
+    )
 }
 
 // ---- release

@@ -26,7 +26,7 @@ use Rattle.journal.specs.declared.Released.the-variants as releasing
 use Rattle.held.proofs.Lists.{held-at-most}
 use Rattle.layout.specs.declared.Track.{Track}
 use Rattle.layout.specs.declared.Track.the-variants.{Two, One}
-use Rattle.payer.specs.Payer.{Given, Payer}
+use Rattle.payer.specs.Payer.{Terms, Given, Payer}
 use Rattle.swipe.specs.Swipe.{Swipes}
 use Rattle.swipe.specs.declared.Swiped.{Swiped}
 use Rattle.swipe.specs.declared.Swiped.the-variants as swiping
@@ -213,12 +213,12 @@ pan-is s at n e = let long : at + 20 + n - (at + 20) ≡ n = omega arith in ap (
 pub stream-is : (s : List ℕ) (at : ℕ) → take (at + 128 - (at + 20)) (drop (at + 20) s) ≡ streamAt s at
 stream-is s at = let long : at + 128 - (at + 20) ≡ 108 = omega arith in ap (λ (m : ℕ). take m (drop (at + 20) s)) long
 
-module _ (s site acquirer t : List ℕ) (at : ℕ) where
-  pub is-book : kindAt s at ≡ 1 → book (panAt s at) (labelAt s at) (amountAt s at) ≡ callAt s site acquirer t at
+module _ (s : List ℕ) (terms : Terms) (t : List ℕ) (at : ℕ) where
+  pub is-book : kindAt s at ≡ 1 → book (panAt s at) (labelAt s at) (amountAt s at) ≡ callAt s terms t at
   unfolding callAt
   is-book e = simp (eq-eqb (kindAt s at) 1 e)
 
-  pub is-release : kindAt s at ≡ 2 → release (serialAt s at) ≡ callAt s site acquirer t at
+  pub is-release : kindAt s at ≡ 2 → release (serialAt s at) ≡ callAt s terms t at
   unfolding callAt
   is-release e = simp (ne-eqb (kindAt s at) 1 (λ z. omega arith), eq-eqb (kindAt s at) 2 e)
 
@@ -227,7 +227,7 @@ module _ (s site acquirer t : List ℕ) (at : ℕ) where
   kindOf Two = 3
   kindOf One = 4
 
-  pub is-swipe : (k : Track) → kindAt s at ≡ kindOf k → swipeAt k s site acquirer t at ≡ callAt s site acquirer t at
+  pub is-swipe : (k : Track) → kindAt s at ≡ kindOf k → swipeAt k s terms t at ≡ callAt s terms t at
   unfolding callAt
   is-swipe Two e = simp (ne-eqb (kindAt s at) 1 (λ z. omega arith), ne-eqb (kindAt s at) 2 (λ z. omega arith), eq-eqb (kindAt s at) 3 e)
   is-swipe One e =
@@ -238,7 +238,7 @@ module _ (s site acquirer t : List ℕ) (at : ℕ) where
         eq-eqb (kindAt s at) 4 e,
       )
 
-  pub is-none : (kindAt s at ≡ 1 → ⊥) → (kindAt s at ≡ 2 → ⊥) → (kindAt s at ≡ 3 → ⊥) → (kindAt s at ≡ 4 → ⊥) → aside ≡ callAt s site acquirer t at
+  pub is-none : (kindAt s at ≡ 1 → ⊥) → (kindAt s at ≡ 2 → ⊥) → (kindAt s at ≡ 3 → ⊥) → (kindAt s at ≡ 4 → ⊥) → aside ≡ callAt s terms t at
   unfolding callAt
   is-none a b c d = simp (ne-eqb (kindAt s at) 1 a, ne-eqb (kindAt s at) 2 b, ne-eqb (kindAt s at) 3 c, ne-eqb (kindAt s at) 4 d)
 

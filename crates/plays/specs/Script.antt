@@ -9,7 +9,7 @@ use Rattle.text.specs.Numbers.{u16At, u32At}
 use Rattle.reasons.specs.Reasons.{Outcome, gives, demand}
 use Rattle.layout.specs.declared.Track.{Track}
 use Rattle.layout.specs.declared.Track.the-variants.{Two, One}
-use Rattle.payer.specs.Payer.{given}
+use Rattle.payer.specs.Payer.{Terms, given}
 use Rattle.history.specs.History.{Call, book, swipe, release, reads, aside, AnswerTo, Does, Done}
 use Rattle.history.specs.History.{Effect, booked-one, released-to, nothing, effectOf, booked, takings, freedCount, freedSum}
 use Rattle.plays.specs.declared.Totals.{Totals}
@@ -44,17 +44,17 @@ panAt s at = take (min (getD s (at + 1) 0) 108) (drop (at + 20) s)
 abbrev pub streamAt : List ℕ → ℕ → List ℕ
 streamAt s at = take 108 (drop (at + 20) s)
 
--- the swipe in the record at `at`, of this track, lent these tables and this scratch
-abbrev pub swipeAt : Track → List ℕ → List ℕ → List ℕ → List ℕ → ℕ → Call
-swipeAt k s site acquirer scratch at = swipe (given k (streamAt s at) (bitsAt s at) site acquirer) (amountAt s at) scratch
+-- the swipe in the record at `at`, of this track, on these terms, lent this scratch
+abbrev pub swipeAt : Track → List ℕ → Terms → List ℕ → ℕ → Call
+swipeAt k s terms scratch at = swipe (given k (streamAt s at) (bitsAt s at) terms) (amountAt s at) scratch
 
 -- the call in the record at `at`; a record of another kind makes none
-unfoldable pub callAt : List ℕ → List ℕ → List ℕ → List ℕ → ℕ → Call
-callAt s site acquirer scratch at =
+unfoldable pub callAt : List ℕ → Terms → List ℕ → ℕ → Call
+callAt s terms scratch at =
     cond (eqb (kindAt s at) 1) (book (panAt s at) (labelAt s at) (amountAt s at))
     (cond (eqb (kindAt s at) 2) (release (serialAt s at))
-    (cond (eqb (kindAt s at) 3) (swipeAt Two s site acquirer scratch at)
-    (cond (eqb (kindAt s at) 4) (swipeAt One s site acquirer scratch at)
+    (cond (eqb (kindAt s at) 3) (swipeAt Two s terms scratch at)
+    (cond (eqb (kindAt s at) 4) (swipeAt One s terms scratch at)
     aside)))
 
 -- "a script too long for its sums is refused by a number of its own", 99; one that is no whole number of records with 6, before that

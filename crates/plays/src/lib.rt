@@ -7,6 +7,7 @@ ghost use mathlib.Core.Path.{_≡_};
 ghost use mathlib.Core.List.{List};
 ghost use Prim.Native.Nat.{ℕ, min, _+_, _≤_};
 ghost use lib.ListN.{getD, length};
+ghost use Rattle.payer.specs.Payer.{terms};
 ghost use Rattle.history.specs.History.{book, release};
 ghost use Rattle.plays.specs.Script.{panAt, labelAt, amountAt, clockAt, serialAt, swipeAt, callAt, PlaysOne, Fits, Adds};
 
@@ -106,11 +107,14 @@ fn play_swipe(
     at: usize,
     site: &[u8],
     acquirer: &[u8],
+    hot: &[u64],
+    digits: u32,
     scratch: &mut [u8],
     journal: &mut [u8],
 ) -> Totals
     requires { ⌜ at + 128 ≤ length (now script) ⌝ }
-    ensures { λ r. ⌜ PlaysOne (swipeAt track (now (script .entry)) (now (site .entry)) (now (acquirer .entry)) (now (scratch .entry)) at)
+    ensures { λ r. ⌜ PlaysOne (swipeAt track (now (script .entry))
+        (terms (now (site .entry)) (now (acquirer .entry)) (now (hot .entry)) digits) (now (scratch .entry)) at)
         (clockAt (now (script .entry)) at) (now (scratch .entry)) (now (journal .entry)) r (now (scratch .exit)) (now (journal .exit)) ⌝ }
 {
     let amount = text::u32_at(script, at + 4);
@@ -122,6 +126,8 @@ fn play_swipe(
         bits as u64,
         site,
         acquirer,
+        hot,
+        digits,
         amount,
         clock,
         scratch,
@@ -138,11 +144,14 @@ pub fn play(
     at: usize,
     site: &[u8],
     acquirer: &[u8],
+    hot: &[u64],
+    digits: u32,
     scratch: &mut [u8],
     journal: &mut [u8],
 ) -> Totals
     requires { ⌜ at + 128 ≤ length (now script) ⌝ }
-    ensures { λ r. ⌜ PlaysOne (callAt (now (script .entry)) (now (site .entry)) (now (acquirer .entry)) (now (scratch .entry)) at)
+    ensures { λ r. ⌜ PlaysOne (callAt (now (script .entry))
+        (terms (now (site .entry)) (now (acquirer .entry)) (now (hot .entry)) digits) (now (scratch .entry)) at)
         (clockAt (now (script .entry)) at) (now (scratch .entry)) (now (journal .entry)) r (now (scratch .exit)) (now (journal .exit)) ⌝ }
 {
     let kind = script[at];
@@ -153,10 +162,30 @@ pub fn play(
         return play_release(script, at, journal);
     }
     if kind == 3 {
-        return play_swipe(Track::Two, script, at, site, acquirer, scratch, journal);
+        return play_swipe(
+            Track::Two,
+            script,
+            at,
+            site,
+            acquirer,
+            hot,
+            digits,
+            scratch,
+            journal,
+        );
     }
     if kind == 4 {
-        return play_swipe(Track::One, script, at, site, acquirer, scratch, journal);
+        return play_swipe(
+            Track::One,
+            script,
+            at,
+            site,
+            acquirer,
+            hot,
+            digits,
+            scratch,
+            journal,
+        );
     }
     counted(0, 0, 0, 1)
 }

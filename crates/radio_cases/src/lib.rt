@@ -5,6 +5,7 @@ use exchange::Exchanged;
 use exchange::Sums;
 use samples::E1;
 use samples::EVERY;
+use samples::NONE;
 use samples::W11;
 
 // ---- the script
@@ -77,11 +78,14 @@ fn agreed(out: &mut [u8; 4096], sums: Sums, journal: &[u8]) {
 
 fn ran(script: &[u8], journal: &mut [u8], air: &mut [u8]) -> Exchanged {
     let every = EVERY;
+    let none = NONE;
     let mut scratch = [0u8; 76];
     exchange::run(
         script,
         &every,
         b"",
+        &none,
+        16,
         &mut scratch,
         journal,
         air,

@@ -4,17 +4,18 @@ use mathlib.Core.Bool.{Bool, true, false}
 use mathlib.Core.Logic.{_⊎_, _↔_, inl, inr, ⊎-elim}
 use Prim.Native.Nat.{ℕ}
 use native.Mathlib.Omega.{arith}
-use mathlib.Core.List.{[], _∷_}
+use mathlib.Core.List.{_∷_}
 use lib.ListN.{getD}
 use Rattle.text.specs.Bytes.{bytesOf}
 use Rattle.reasons.specs.Reasons.{numberOf, wordsOf, Phrases, Outcome, gives, refuses, demand, after, numberIn, andThen, said}
 use Rattle.reasons.specs.declared.Phrase.{Phrase}
 use Rattle.reasons.specs.declared.Tested.{Tested}
 use Rattle.reasons.specs.declared.Tested.the-variants.{Passes, Refused}
+use Rattle.reasons.specs.Lines.{inOrder}
 use Rattle.reasons.specs.declared.Reason.{Reason}
 use Rattle.reasons.specs.declared.Reason.the-variants.{ShortOutput, BadCount, BadByte, WrongCheck, UnknownCountry, WrongLayout, BadBitCount}
 use Rattle.reasons.specs.declared.Reason.the-variants.{NoStart, CutShort, WrongParity, LongTrack, WrongLrc, MarksAfter, BadTable}
-use Rattle.reasons.specs.declared.Reason.the-variants.{NoRange, BadJournal, ZeroAmount, JournalFull, SerialsUsedUp, NoSerial}
+use Rattle.reasons.specs.declared.Reason.the-variants.{NoRange, BadJournal, ZeroAmount, JournalFull, SerialsUsedUp, NoSerial, BadHotList, ListedCard}
 
 -- a value is not a refusal
 pub gives-refuses : {A B : Type 0} (v : A) (n : ℕ) → _≡_ {A = Outcome A} (gives v) (refuses n) → B
@@ -70,14 +71,10 @@ module _ {A : Type 0} (t : Bool) (n : ℕ) (o : Outcome A) where
 
 -- the reason of a number
 reasonOf : ℕ → Reason
-reasonOf n =
-    getD
-    (ShortOutput ∷ ShortOutput ∷ BadCount ∷ BadByte ∷ WrongCheck ∷ UnknownCountry ∷ WrongLayout ∷ BadBitCount ∷ NoStart ∷ CutShort ∷ WrongParity
-    ∷ LongTrack ∷ WrongLrc ∷ MarksAfter ∷ BadTable ∷ NoRange ∷ BadJournal ∷ ZeroAmount ∷ JournalFull ∷ SerialsUsedUp ∷ NoSerial ∷ [])
-    n ShortOutput
+reasonOf n = getD (ShortOutput ∷ inOrder) n ShortOutput
 
 back : (r : Reason) → reasonOf (numberOf r) ≡ r
-unfolding reasonOf
+unfolding reasonOf inOrder
 back ShortOutput = refl
 back BadCount = refl
 back BadByte = refl
@@ -98,6 +95,8 @@ back ZeroAmount = refl
 back JournalFull = refl
 back SerialsUsedUp = refl
 back NoSerial = refl
+back BadHotList = refl
+back ListedCard = refl
 
 -- equal refusals, equal numbers
 pub refused-number : {A : Type 0} (m n : ℕ) → _≡_ {A = Outcome A} (refuses m) (refuses n) → m ≡ n

@@ -1,4 +1,4 @@
--- The numbered reasons of document 01, and what a call says in the paper's terms.
+-- The numbered reasons, 1 to 20 of document 01 and from 21 on of document 02, and what a call says in the paper's terms.
 use Prim.Native.Nat.{ℕ, _≤_}
 use Prim.Native.String.{String}
 use mathlib.Core.Path.{_≡_}
@@ -9,7 +9,7 @@ use Rattle.text.specs.Numbers.{put}
 use Rattle.reasons.specs.declared.Reason.{Reason}
 use Rattle.reasons.specs.declared.Reason.the-variants.{ShortOutput, BadCount, BadByte, WrongCheck, UnknownCountry, WrongLayout, BadBitCount}
 use Rattle.reasons.specs.declared.Reason.the-variants.{NoStart, CutShort, WrongParity, LongTrack, WrongLrc, MarksAfter, BadTable}
-use Rattle.reasons.specs.declared.Reason.the-variants.{NoRange, BadJournal, ZeroAmount, JournalFull, SerialsUsedUp, NoSerial}
+use Rattle.reasons.specs.declared.Reason.the-variants.{NoRange, BadJournal, ZeroAmount, JournalFull, SerialsUsedUp, NoSerial, BadHotList, ListedCard}
 use Rattle.reasons.specs.declared.Phrase.{Phrase}
 use Rattle.reasons.specs.declared.Tested.{Tested}
 use Rattle.reasons.specs.declared.Tested.the-variants.{Passes, Refused}
@@ -36,8 +36,10 @@ numberOf ZeroAmount = 17
 numberOf JournalFull = 18
 numberOf SerialsUsedUp = 19
 numberOf NoSerial = 20
+numberOf BadHotList = 21
+numberOf ListedCard = 22
 
--- and its words
+-- and its words: document 01's, and from 21 on the house's, since document 02 has no table of them
 abbrev pub wordsOf : Reason → String
 wordsOf ShortOutput = "lent output or scratch too short"
 wordsOf BadCount = "count of digits or characters outside its range"
@@ -59,6 +61,8 @@ wordsOf ZeroAmount = "amount 0"
 wordsOf JournalFull = "journal full"
 wordsOf SerialsUsedUp = "serials used up"
 wordsOf NoSerial = "serial not there"
+wordsOf BadHotList = "hot list not rising or too long, or PAN length or a number wrong"
+wordsOf ListedCard = "card on the hot list"
 
 -- w holds the text t: its length, and its bytes over 64 zeros
 abbrev pub Phrases : List ℕ → Phrase → Type 0

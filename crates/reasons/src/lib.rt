@@ -1,4 +1,4 @@
-// The numbered reasons of document 01, their numbers and words; what a test answers.
+// The numbered reasons, 1 to 20 of document 01 and from 21 on of document 02, their numbers and words; what a test answers.
 ghost use mathlib.Core.Path.{_≡_};
 ghost use Prim.Native.Nat.{_+_, _≤_};
 ghost use lib.ListN.{length, drop};
@@ -27,6 +27,8 @@ pub enum Reason {
     JournalFull,
     SerialsUsedUp,
     NoSerial,
+    BadHotList,
+    ListedCard,
 }
 
 // What a test answers: that the text passes, or why it is refused.
@@ -60,6 +62,8 @@ pub fn number(r: Reason) -> u32
         Reason::JournalFull => 18,
         Reason::SerialsUsedUp => 19,
         Reason::NoSerial => 20,
+        Reason::BadHotList => 21,
+        Reason::ListedCard => 22,
     }
 }
 
@@ -92,8 +96,8 @@ fn told(text: &[u8]) -> Phrase
     }
 }
 
-// The paper's words: those of reason n are line n, and line 0 is empty.
-fn table() -> [u8; 458]
+// Those of reason n are line n, and line 0 is empty.
+fn table() -> [u8; 544]
     ensures { λ r. ⌜ r ≡ linesOf inOrder ⌝ }
 {
     *b"
@@ -116,7 +120,9 @@ journal not well formed
 amount 0
 journal full
 serials used up
-serial not there"
+serial not there
+hot list not rising or too long, or PAN length or a number wrong
+card on the hot list"
 }
 
 // Where line n begins; the text's end where there is none.
@@ -152,7 +158,7 @@ fn line_end(text: &[u8], from: usize) -> usize
     at
 }
 
-// The paper's words of a reason.
+// A reason in words.
 pub fn words(r: Reason) -> Phrase
     ensures { λ w. ⌜ Phrases (bytesOf (wordsOf r)) w ⌝ }
 {

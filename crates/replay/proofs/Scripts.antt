@@ -13,6 +13,7 @@ use Rattle.held.specs.Held.{heldList, sumOf}
 use Rattle.held.proofs.Lists.{held-at-most, sum-append}
 use Rattle.plays.proofs.Sums.{totals-append, bounded-none, bounded-more, sum}
 use Rattle.plays.proofs.Records.{broken, too-many, whole}
+use Rattle.payer.specs.Payer.{Terms}
 use Rattle.history.specs.History.{Done, Run, no-more, next, recordOf, takings}
 use Rattle.history.specs.History.{booked, freedCount, freedSum}
 use Rattle.history.proofs.Account.{Open, account}
@@ -25,16 +26,16 @@ use Rattle.replay.specs.Replay.{Plays, no-record, one-record, PlaysAll, 
 -- ---- one record after another
 
 -- the first i of n records are played; whatever the others come to, with r before them they are all
-pub record Going (s site acquirer t j : List ℕ) (n i : ℕ) (u k : List ℕ) (r : Totals) : Type 0 where
+pub record Going (s : List ℕ) (terms : Terms) (t j : List ℕ) (n i : ℕ) (u k : List ℕ) (r : Totals) : Type 0 where
   pub scratch-long : length u ≡ length t
   pub journal-long : length k ≡ length j
   pub in-range : i ≤ n
   pub small : Bounded i r
-  pub rest : (ds : List Done) (v l : List ℕ) (x y : Totals) → Plays s site acquirer i (n - i) u k ds v l → TotalsOf ds x → Adds r x y
-      → (es : List Done) × Plays s site acquirer 0 n t j es v l × TotalsOf es y
+  pub rest : (ds : List Done) (v l : List ℕ) (x y : Totals) → Plays s terms i (n - i) u k ds v l → TotalsOf ds x → Adds r x y
+      → (es : List Done) × Plays s terms 0 n t j es v l × TotalsOf es y
 
-pub going-start : (s site acquirer t j : List ℕ) (n : ℕ) (r : Totals) → Nothing 0 0 r → Going s site acquirer t j n 0 t j r
-going-start s site acquirer t j n r z =
+pub going-start : (s : List ℕ) (terms : Terms) (t j : List ℕ) (n : ℕ) (r : Totals) → Nothing 0 0 r → Going s terms t j n 0 t j r
+going-start s terms t j n r z =
     record {
       scratch-long = refl;
       journal-long = refl;
@@ -43,7 +44,7 @@ going-start s site acquirer t j n r z =
       rest = λ ds v l x y p w a.
           let e : n - 0 ≡ n = omega arith in (
             ds,
-            subst (λ (c : ℕ). Plays s site acquirer 0 c t j ds v l) e p,
+            subst (λ (c : ℕ). Plays s terms 0 c t j ds v l) e p,
             record {
               booked-is = omega (arith, z .0, a .booked, w .booked-is);
               takings-is = omega (arith, z .1, a .takings, w .takings-is);
@@ -55,10 +56,10 @@ going-start s site acquirer t j n r z =
           );
     }
 
-pub going-turn : (s site acquirer t j : List ℕ) (n i : ℕ) (u k u' k' : List ℕ) (r x r' : Totals) → Going s site acquirer t j n i u k r → i < n
-    → PlaysOne (callAt s site acquirer u (128 * i)) (clockAt s (128 * i)) u k x u' k' → Adds r x r' → length u' ≡ length u → length k' ≡ length k
-    → Going s site acquirer t j n (i + 1) u' k' r'
-going-turn s site acquirer t j n i u k u' k' r x r' g h p a eu ek =
+pub going-turn : (s : List ℕ) (terms : Terms) (t j : List ℕ) (n i : ℕ) (u k u' k' : List ℕ) (r x r' : Totals) → Going s terms t j n i u k r → i < n
+    → PlaysOne (callAt s terms u (128 * i)) (clockAt s (128 * i)) u k x u' k' → Adds r x r' → length u' ≡ length u → length k' ≡ length k
+    → Going s terms t j n (i + 1) u' k' r'
+going-turn s terms t j n i u k u' k' r x r' g h p a eu ek =
     record {
       scratch-long = eu ∙ g .scratch-long;
       journal-long = ek ∙ g .journal-long;
@@ -66,10 +67,10 @@ going-turn s site acquirer t j n i u k u' k' r x r' g h p a eu ek =
       small = bounded-more i r x r' (g .small) (p .small) a;
       rest = λ ds v l y z q w b.
           let e : suc (n - (i + 1)) ≡ n - i = omega arith in
-          let d : Done = record { clock = clockAt s (128 * i); call = callAt s site acquirer u (128 * i); answer = p .answer; after = k' } in
+          let d : Done = record { clock = clockAt s (128 * i); call = callAt s terms u (128 * i); answer = p .answer; after = k' } in
           g .rest (d ∷ ds) v l (sum x y) z
-          (subst (λ (c : ℕ). Plays s site acquirer i c u k (d ∷ ds) v l) e
-          (one-record d refl refl (p .does) (subst (λ (c : List ℕ). Plays s site acquirer (i + 1) (n - (i + 1)) c k' ds v l) (p .scratch) q)))
+          (subst (λ (c : ℕ). Plays s terms i c u k (d ∷ ds) v l) e
+          (one-record d refl refl (p .does) (subst (λ (c : List ℕ). Plays s terms (i + 1) (n - (i + 1)) c k' ds v l) (p .scratch) q)))
           (totals-append (d ∷ []) ds x y (sum x y) (p .totals) w
           (record { booked = refl; takings = refl; released = refl; remitted = refl; refused = refl; skipped = refl }))
           (record {
@@ -82,34 +83,34 @@ going-turn s site acquirer t j n i u k u' k' r x r' g h p a eu ek =
           });
     }
 
-pub going-done : (s site acquirer t j : List ℕ) (i : ℕ) (u k : List ℕ) (r : Totals) → Going s site acquirer t j (length s / 128) i u k r → length s / 128 ≤ i
-    → PlaysAll s site acquirer t j r u k
+pub going-done : (s : List ℕ) (terms : Terms) (t j : List ℕ) (i : ℕ) (u k : List ℕ) (r : Totals)
+    → Going s terms t j (length s / 128) i u k r → length s / 128 ≤ i → PlaysAll s terms t j r u k
 unfolding booked takings freedCount freedSum refusedCount skippedCount
-going-done s site acquirer t j i u k r g h =
+going-done s terms t j i u k r g h =
     let l = g .in-range in
     let e : 0 ≡ length s / 128 - i = omega arith in
     let w = g .rest [] u k (record { booked = 0; takings = 0; released = 0; remitted = 0; refused = 0; skipped = 0 }) r
-    (subst (λ (c : ℕ). Plays s site acquirer i c u k [] u k) e no-record)
+    (subst (λ (c : ℕ). Plays s terms i c u k [] u k) e no-record)
     (record { booked-is = refl; takings-is = refl; released-is = refl; remitted-is = refl; refused-is = refl; skipped-is = refl })
     (record { booked = omega arith; takings = omega arith; released = omega arith; remitted = omega arith; refused = omega arith; skipped = omega arith }) in
     record { done = w .0; plays = w .1; totals = w .2 }
 
 -- ---- what replay says
 
-module _ (s site acquirer t j : List ℕ) where
-  pub rule-not-whole : (length s % 128 ≡ 0 → ⊥) → Replays s site acquirer t j (scriptRule s) NotWhole t j
-  rule-not-whole h = subst⁻¹ (λ o. Replays s site acquirer t j o NotWhole t j) (broken s h) not-whole
+module _ (s : List ℕ) (terms : Terms) (t j : List ℕ) where
+  pub rule-not-whole : (length s % 128 ≡ 0 → ⊥) → Replays s terms t j (scriptRule s) NotWhole t j
+  rule-not-whole h = subst⁻¹ (λ o. Replays s terms t j o NotWhole t j) (broken s h) not-whole
 
-  pub rule-too-long : length s % 128 ≡ 0 → 1048576 < length s / 128 → Replays s site acquirer t j (scriptRule s) TooLong t j
-  rule-too-long e h = subst⁻¹ (λ o. Replays s site acquirer t j o TooLong t j) (too-many s e h) too-long
+  pub rule-too-long : length s % 128 ≡ 0 → 1048576 < length s / 128 → Replays s terms t j (scriptRule s) TooLong t j
+  rule-too-long e h = subst⁻¹ (λ o. Replays s terms t j o TooLong t j) (too-many s e h) too-long
 
-  pub rule-played : (r : Totals) (u k : List ℕ) → length s % 128 ≡ 0 → length s / 128 ≤ 1048576 → PlaysAll s site acquirer t j r u k
-      → Replays s site acquirer t j (scriptRule s) (Played r) u k
-  rule-played r u k e h w = subst⁻¹ (λ o. Replays s site acquirer t j o (Played r) u k) (whole s e h) (played w)
+  pub rule-played : (r : Totals) (u k : List ℕ) → length s % 128 ≡ 0 → length s / 128 ≤ 1048576 → PlaysAll s terms t j r u k
+      → Replays s terms t j (scriptRule s) (Played r) u k
+  rule-played r u k e h w = subst⁻¹ (λ o. Replays s terms t j o (Played r) u k) (whole s e h) (played w)
 
 -- ---- what was held and what was booked is what was released and what is held
 
-pub plays-run : {s site acquirer t j u k : List ℕ} {i m : ℕ} {ds : List Done} → Plays s site acquirer i m t j ds u k → Run j ds k
+pub plays-run : {s : List ℕ} {terms : Terms} {t j u k : List ℕ} {i m : ℕ} {ds : List Done} → Plays s terms i m t j ds u k → Run j ds k
 plays-run no-record = no-more
 plays-run (one-record d e f w p) = next d w (plays-run p)
 
@@ -126,9 +127,9 @@ newest-fits j b bytes f = go (decLe b 0)
         let g = f .stands b (omega arith) (omega arith) .serial in
         omega (arith, g, bytes at, bytes (at + 1), bytes (at + 2), bytes (at + 3))
 
-pub conserved : (s site acquirer t j : List ℕ) (r : Totals) (u k : List ℕ) → ((i : ℕ) → getD j i 0 < 256) → PlaysAll s site acquirer t j r u k
+pub conserved : (s : List ℕ) (terms : Terms) (t j : List ℕ) (r : Totals) (u k : List ℕ) → ((i : ℕ) → getD j i 0 < 256) → PlaysAll s terms t j r u k
     → (b : ℕ) → NewestIs j (Is b) → Conserved b j r k
-conserved s site acquirer t j r u k bytes w b f =
+conserved s terms t j r u k bytes w b f =
     let n : ℕ = slotsOf j in
     let most : length (heldList j b) ≤ b - (b - n) = held-at-most j n (b - n) (b - (b - n)) in
     let top : ℕ = b - length (heldList j b) in

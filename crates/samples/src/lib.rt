@@ -1,4 +1,4 @@
-// Two cards as they are swiped, and a table that takes them: what the worked cases share.
+// Two cards as they are swiped, a table that takes them and a hot list that blocks none: what the worked cases share.
 
 // `;4111111111111111=2512101?` and its LRC, 135 bits.
 pub const W11: [u8; 17] = *b"\x8B\x84\x10\x42\x08\x21\x84\x10\x42\x08\xA1\x89\x1A\x44\x80\xE1\x23";
@@ -9,3 +9,6 @@ pub const E1: [u8; 33] =
 
 // A table whose one range fits every PAN, label 7.
 pub const EVERY: [u8; 16] = *b"\x00\x00\x00\x00\xFF\xFF\xFF\xFF\x07\x00\x0D\x13\x00\x00\x00\x00";
+
+// A hot list of no card.
+pub const NONE: [u64; 0] = [];

@@ -29,11 +29,11 @@ pub struct Field {
     pub value: u64,
 }
 
-// Word k of a line as a number, no more than `most`.
-pub fn number(out: &mut [u8], text: &[u8], k: usize, most: u64) -> Field
+// A word as a number, no more than `most`.
+pub fn number_of(out: &mut [u8], word: &[u8], most: u64) -> Field
     ensures { λ r. ⌜ r .value ≤ most ⌝ }
 {
-    match numerals::number_in(script::word(text, k), most) {
+    match numerals::number_in(word, most) {
         Number::Is(value) => Field { clear: true, value },
         Number::Isnt(why) => {
             unclear_word(out, why);
@@ -43,6 +43,13 @@ pub fn number(out: &mut [u8], text: &[u8], k: usize, most: u64) -> Field
             }
         }
     }
+}
+
+// Word k of a line as a number.
+pub fn number(out: &mut [u8], text: &[u8], k: usize, most: u64) -> Field
+    ensures { λ r. ⌜ r .value ≤ most ⌝ }
+{
+    number_of(out, script::word(text, k), most)
 }
 
 // How many bytes stand in the buffer's front, or none, which was answered.

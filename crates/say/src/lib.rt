@@ -106,7 +106,7 @@ fn phrase(out: &mut [u8], p: Phrase)
     words(out, &bytes[..n]);
 }
 
-// A refusal without the end of its line: its number and the paper's words.
+// A refusal without the end of its line: its number and the reason in words.
 pub fn refusal(out: &mut [u8], why: Reason) {
     value(out, b"refused ", reasons::number(why) as u64);
     words(out, b": ");

@@ -3,12 +3,16 @@ use Prim.Native.Nat.{ℕ}
 use mathlib.Core.Path.{_≡_, sym, _∙_}
 use mathlib.Core.Bool.{Bool}
 use mathlib.Core.List.{List}
+use lib.ListN.{drop}
 use denote.Ref.{RefT}
-use Rattle.script.specs.Words.{afterWords, word, spaces, gap, plain, same}
+use Rattle.script.specs.Words.{firstWord, afterWords, word, spaces, gap, plain, same}
 
 module _ (s r q : RefT (List ℕ)) where
   pub from-word-one : (k : ℕ) → r .now ≡ afterWords k (s .now) → q .now ≡ afterWords k (s .now) → r .now ≡ q .now
   from-word-one k a b = a ∙ sym b
+
+  pub word-at-one : (i : ℕ) → r .now ≡ firstWord (drop i (s .now)) → q .now ≡ firstWord (drop i (s .now)) → r .now ≡ q .now
+  word-at-one i a b = a ∙ sym b
 
   pub word-one : (k : ℕ) → r .now ≡ word k (s .now) → q .now ≡ word k (s .now) → r .now ≡ q .now
   word-one k a b = a ∙ sym b

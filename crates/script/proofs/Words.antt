@@ -49,9 +49,12 @@ module _ (s : List ℕ) (i : ℕ) where
   unfolding firstWord
   first-space h e = rw (drop-cons s i 0 h, eq-eqb (getD s i 0) 32 e)
 
-  pub first-end : length s ≤ i → length (firstWord (drop i s)) ≡ 0
+  pub first-none : length s ≤ i → firstWord (drop i s) ≡ []
   unfolding firstWord
-  first-end h = rw (drop-of-length-le s h)
+  first-none h = rw (drop-of-length-le s h)
+
+  pub first-end : length s ≤ i → length (firstWord (drop i s)) ≡ 0
+  first-end h = ap length (first-none h)
 
   pub first-turn : i < length s → (getD s i 0 ≡ 32 → ⊥) → length (firstWord (drop i s)) ≡ suc (length (firstWord (drop (suc i) s)))
   unfolding firstWord

@@ -1,7 +1,7 @@
 // A line of a script taken apart: its words, its tag, a text typed in groups.
 ghost use mathlib.Core.Path.{_≡_};
 ghost use mathlib.Core.Bool.{cond};
-ghost use Prim.Native.Nat.{_+_, _≤_, _<_};
+ghost use Prim.Native.Nat.{_+_, _-_, _≤_, _<_};
 ghost use lib.ListN.{length, take, drop, set};
 ghost use Rattle.text.specs.Numbers.{put};
 ghost use Rattle.script.specs.Words.{isSpace, firstWord, afterWords, word, spaces, gap, plain, isBlank, trimmed, isTag, untagged, solid, same};
@@ -46,13 +46,22 @@ pub fn from_word(line: &[u8], k: usize) -> &[u8]
     &line[a..]
 }
 
+// The word that starts at the byte `from`: a part of the line, empty past its end. By these a long line is walked once.
+pub fn word_at(line: &[u8], from: usize) -> &[u8]
+    ensures { λ r. ⌜ (now r ≡ firstWord (drop from (now (line .entry)))) × (length (now r) ≤ length (now (line .entry)) - from) ⌝ }
+{
+    if line.len() <= from {
+        return &line[..0];
+    }
+    let e = end_of(line, from);
+    &line[from..e]
+}
+
 // Word k of a line: a part of the line, empty where there is none.
 pub fn word(line: &[u8], k: usize) -> &[u8]
     ensures { λ r. ⌜ now r ≡ word k (now (line .entry)) ⌝ }
 {
-    let a = start_of(line, k);
-    let e = end_of(line, a);
-    &line[a..e]
+    word_at(line, start_of(line, k))
 }
 
 // How many words follow the first.

@@ -21,7 +21,7 @@ use Rattle.journal.specs.Rules.{full, bookRule, bookBytes, saidBooked, Books}
 use Rattle.journal.specs.declared.Booked.{Booked}
 use Rattle.journal.specs.declared.Booked.the-variants as booked
 use Rattle.journal.proofs.Rule.{Fine, book-done}
-use Rattle.payer.specs.Payer.{room, Given, given, Payer, cardRule}
+use Rattle.payer.specs.Payer.{room, Terms, Given, given, Payer, cardRule}
 use Rattle.swipe.specs.Swipe.{boxRule, readyRule, swipeRule, swipeAnswer, swipeBytes, swipeScratch, saidSwiped, Swipes}
 use Rattle.layout.specs.declared.Track.{Track}
 use Rattle.layout.specs.declared.Track.the-variants.{Two, One}
@@ -68,7 +68,7 @@ swipe-one g amount clock t j r q u v k l f h = by (decLe (room (g .track)) (leng
 pub record Passed (m : Newest) (g : Given) (amount space : ℕ) (j : List ℕ) (p : Payer) : Type 0 where
   pub scratch : room (g .track) ≤ space
   pub serial : ℕ
-  pub box : Open (g .site) (g .acquirer) amount j m serial
+  pub box : Open (g .terms) amount j m serial
   pub card : cardRule g ≡ gives p
 
 pub passed-all : (m : Newest) (g : Given) (amount space : ℕ) (j : List ℕ) (p : Payer) → swipeRule m g amount space j ≡ gives p → Passed m g amount space j p
@@ -76,7 +76,7 @@ unfolding swipeRule readyRule
 passed-all m g amount space j p e =
     let a = went-on (readyRule m g amount space j) _ p e in
     let s = passed (leb (room (g .track)) space) 1 _ (a .0) (a .1) in
-    record { scratch = leb-true _ _ (s .0); serial = a .0; box = opened (g .site) (g .acquirer) amount j m (a .0) (s .1); card = a .2 }
+    record { scratch = leb-true _ _ (s .0); serial = a .0; box = opened (g .terms) amount j m (a .0) (s .1); card = a .2 }
 
 -- where the tests pass nothing else refuses: the payment is booked under the next serial
 pub is-booked : (m : Newest) (g : Given) (amount space : ℕ) (j : List ℕ) (p : Payer) → swipeRule m g amount space j ≡ gives p
@@ -175,12 +175,12 @@ alike (refuses n) j f p q e = refl
 
 -- no byte of the PAN stays anywhere but what the record shows: of two cards that pay, with PANs of one length, the same shown digits and one
 -- label, a swipe leaves the same journal; the scratch is cleared
-module _ (k : Track) (site acquirer : List ℕ) (m : Newest) (amount space clock : ℕ) (j : List ℕ) (s t : List ℕ) (n o : ℕ) (p q : Payer) where
+module _ (k : Track) (terms : Terms) (m : Newest) (amount space clock : ℕ) (j : List ℕ) (s t : List ℕ) (n o : ℕ) (p q : Payer) where
   abbrev one : Given
-  one = given k s n site acquirer
+  one = given k s n terms
 
   abbrev other : Given
-  other = given k t o site acquirer
+  other = given k t o terms
 
   pub no-trace : cardRule one ≡ gives p → cardRule other ≡ gives q → length (p .pan) ≡ length (q .pan) → shown (p .pan) ≡ shown (q .pan) → p .label ≡ q .label
       → swipeBytes m one amount space clock j ≡ swipeBytes m other amount space clock j

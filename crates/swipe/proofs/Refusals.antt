@@ -1,5 +1,6 @@
 -- "Order: scratch under 37 (1), 16, 14, 17, 19, 18, then the reading's refusals, layout 6, Luhn 4, 15", "in the same order, with 76 bytes of
--- scratch": each is given exactly when its condition is the first to hold, on either track.
+-- scratch", with 21 "just after 14" and 22 "the last check before booking": each is given exactly when its condition is the first to hold, on
+-- either track.
 use Prim.Native.Nat.{ℕ, _+_}
 use mathlib.Core.Path.{_≡_, refl, sym, ap, _∙_}
 use mathlib.Core.Bool.{not}
@@ -9,6 +10,7 @@ use lib.Dec.{leb, eqb}
 use Rattle.reasons.specs.Reasons.{Outcome, gives, refuses, andThen}
 use Rattle.reasons.proofs.Laws.{First, gives-refuses, refused-number, follows-exactly}
 use Rattle.ranges.specs.Ranges.{tableOk}
+use Rattle.hotlist.specs.Hotlist.{listOk}
 use Rattle.slots.specs.Views.{formed, newest}
 use Rattle.slots.specs.declared.Newest.{Newest}
 use Rattle.journal.specs.Rules.{full, bookRule}
@@ -21,21 +23,23 @@ module _ (m : Newest) (g : Given) (amount space : ℕ) (j : List ℕ) (n : ℕ) 
   pub swipe-refuses : (swipeRule m g amount space j ≡ refuses n) ↔
       First (leb (room (g .track)) space) 1 n
       (First (formed m) 16 n
-      (First (tableOk (g .site)) 14 n
-      (First (tableOk (g .acquirer)) 14 n
+      (First (tableOk (g .terms .site)) 14 n
+      (First (tableOk (g .terms .acquirer)) 14 n
+      (First (listOk (g .terms .hot) (g .terms .digits)) 21 n
       (First (not (eqb amount 0)) 17 n
       (First (not (eqb (newest m) 4294967295)) 19 n
       (First (not (full j)) 18 n
-      (CardRefuses g n)))))))
+      (CardRefuses g n))))))))
   unfolding swipeRule readyRule boxRule
   swipe-refuses =
       follows-exactly _ 1 _ _ n
       (follows-exactly _ 16 _ _ n
       (follows-exactly _ 14 _ _ n
       (follows-exactly _ 14 _ _ n
+      (follows-exactly _ 21 _ _ n
       (follows-exactly _ 17 _ _ n
       (follows-exactly _ 19 _ _ n
-      (follows-exactly _ 18 _ _ n (card-refuses g n)))))))
+      (follows-exactly _ 18 _ _ n (card-refuses g n))))))))
 
   -- "then it books": the booking itself refuses nothing more
   pub answer-refuses : (swipeAnswer m g amount space j ≡ refuses n) ↔ (swipeRule m g amount space j ≡ refuses n)

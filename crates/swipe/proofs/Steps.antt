@@ -14,6 +14,7 @@ use Rattle.reasons.specs.declared.Reason.{Reason}
 use Rattle.reasons.proofs.Laws.{passed}
 use Rattle.ranges.specs.Ranges.{tableOk}
 use Rattle.ranges.proofs.Steps.{both-demanded}
+use Rattle.hotlist.specs.Hotlist.{listOk}
 use Rattle.slots.specs.Record.{record32}
 use Rattle.slots.specs.Journal.{slotsOf, place}
 use Rattle.slots.specs.Views.{formed, newest}
@@ -22,7 +23,7 @@ use Rattle.slots.specs.declared.Newest.the-variants.{Malformed, Is}
 use Rattle.journal.specs.Rules.{full}
 use Rattle.journal.proofs.Rule.{Fine, book-done, book-wrote}
 use Rattle.payer.proofs.Cards.{card-pays}
-use Rattle.payer.specs.Payer.{room, Given, Payer, cardRule}
+use Rattle.payer.specs.Payer.{room, Terms, Sound, Given, Payer, cardRule}
 use Rattle.swipe.specs.Swipe.{boxRule, readyRule, swipeRule, swipeAnswer, swipeBytes, swipeScratch, Charges}
 use Rattle.swipe.specs.declared.Swiped.the-variants.{Serial, Refused}
 
@@ -32,44 +33,43 @@ card-fine g p e = let c = card-pays g p e in record { count = c .count; digits =
 
 -- ---- the box's tests, in their order
 
-module _ (site acquirer : List ℕ) (amount : ℕ) (j : List ℕ) where
-  pub bad-journal : refuses 16 ≡ boxRule Malformed site acquirer amount j
+module _ (t : Terms) (amount : ℕ) (j : List ℕ) where
+  pub bad-journal : refuses 16 ≡ boxRule Malformed t amount j
   unfolding boxRule
   bad-journal = refl
 
   module _ (b : ℕ) where
-    pub bad-tables : (tableOk site && tableOk acquirer) ≡ false → refuses 14 ≡ boxRule (Is b) site acquirer amount j
+    pub bad-tables : (tableOk (t .site) && tableOk (t .acquirer)) ≡ false → refuses 14 ≡ boxRule (Is b) t amount j
     unfolding boxRule
-    bad-tables t = sym (both-demanded (tableOk site) (tableOk acquirer) 14 _ t)
+    bad-tables e = sym (both-demanded (tableOk (t .site)) (tableOk (t .acquirer)) 14 _ e)
 
-    module _ (t : (tableOk site && tableOk acquirer) ≡ true) where
-      pub zero-amount : amount ≡ 0 → refuses 17 ≡ boxRule (Is b) site acquirer amount j
+    pub bad-list : (tableOk (t .site) && tableOk (t .acquirer)) ≡ true → listOk (t .hot) (t .digits) ≡ false → refuses 21 ≡ boxRule (Is b) t amount j
+    unfolding boxRule
+    bad-list e h = let w = both-true (tableOk (t .site)) (tableOk (t .acquirer)) e in simp (w .0, w .1, h)
+
+    module _ (s : Sound t) where
+      pub zero-amount : amount ≡ 0 → refuses 17 ≡ boxRule (Is b) t amount j
       unfolding boxRule
-      zero-amount z = let e = both-true (tableOk site) (tableOk acquirer) t in simp (e .0, e .1, eq-eqb amount 0 z)
+      zero-amount z = simp (s .site-right, s .acquirer-right, s .hot-right, eq-eqb amount 0 z)
 
       module _ (z : amount ≡ 0 → ⊥) where
-        pub last-serial : b ≡ 4294967295 → refuses 19 ≡ boxRule (Is b) site acquirer amount j
+        pub last-serial : b ≡ 4294967295 → refuses 19 ≡ boxRule (Is b) t amount j
         unfolding boxRule
-        last-serial l = let e = both-true (tableOk site) (tableOk acquirer) t in simp (e .0, e .1, ne-eqb amount 0 z, eq-eqb b 4294967295 l)
+        last-serial l = simp (s .site-right, s .acquirer-right, s .hot-right, ne-eqb amount 0 z, eq-eqb b 4294967295 l)
 
         module _ (l : b ≡ 4294967295 → ⊥) where
-          pub journal-full : full j ≡ true → refuses 18 ≡ boxRule (Is b) site acquirer amount j
+          pub journal-full : full j ≡ true → refuses 18 ≡ boxRule (Is b) t amount j
           unfolding boxRule
-          journal-full f =
-              let e = both-true (tableOk site) (tableOk acquirer) t in
-              simp (e .0, e .1, ne-eqb amount 0 z, ne-eqb b 4294967295 l, f)
+          journal-full f = simp (s .site-right, s .acquirer-right, s .hot-right, ne-eqb amount 0 z, ne-eqb b 4294967295 l, f)
 
-          pub all-passed : full j ≡ false → gives b ≡ boxRule (Is b) site acquirer amount j
+          pub all-passed : full j ≡ false → gives b ≡ boxRule (Is b) t amount j
           unfolding boxRule
-          all-passed f =
-              let e = both-true (tableOk site) (tableOk acquirer) t in
-              simp (e .0, e .1, ne-eqb amount 0 z, ne-eqb b 4294967295 l, f)
+          all-passed f = simp (s .site-right, s .acquirer-right, s .hot-right, ne-eqb amount 0 z, ne-eqb b 4294967295 l, f)
 
   -- the tests that a box passed whose newest serial is b
   pub record Open (m : Newest) (b : ℕ) : Type 0 where
     pub view : m ≡ Is b
-    pub site-right : tableOk site ≡ true
-    pub acquirer-right : tableOk acquirer ≡ true
+    pub sound : Sound t
     pub some : amount ≡ 0 → ⊥
     pub serials : b ≡ 4294967295 → ⊥
     pub slot : full j ≡ false
@@ -78,20 +78,20 @@ module _ (site acquirer : List ℕ) (amount : ℕ) (j : List ℕ) where
   formed-is Malformed b f e = let z : _≡_ {A = ℕ} 0 1 = cc in absurd (omega arith)
   formed-is (Is c) b f e = ap Is e
 
-  pub opened : (m : Newest) (b : ℕ) → boxRule m site acquirer amount j ≡ gives b → Open m b
+  pub opened : (m : Newest) (b : ℕ) → boxRule m t amount j ≡ gives b → Open m b
   unfolding boxRule
   opened m b e =
       let w = passed (formed m) 16 _ b e in
-      let s = passed (tableOk site) 14 _ b (w .1) in
-      let a = passed (tableOk acquirer) 14 _ b (s .1) in
-      let z = passed (not (eqb amount 0)) 17 _ b (a .1) in
+      let s = passed (tableOk (t .site)) 14 _ b (w .1) in
+      let a = passed (tableOk (t .acquirer)) 14 _ b (s .1) in
+      let h = passed (listOk (t .hot) (t .digits)) 21 _ b (a .1) in
+      let z = passed (not (eqb amount 0)) 17 _ b (h .1) in
       let l = passed (not (eqb (newest m) 4294967295)) 19 _ b (z .1) in
       let f = passed (not (full j)) 18 _ b (l .1) in
       let n : newest m ≡ b = cc (f .1) in
       record {
         view = formed-is m b (w .0) n;
-        site-right = s .0;
-        acquirer-right = a .0;
+        sound = record { site-right = s .0; acquirer-right = a .0; hot-right = h .0 };
         some = eqb-false amount 0 (not-true _ (z .0));
         serials = λ h. eqb-false (newest m) 4294967295 (not-true _ (l .0)) (n ∙ h);
         slot = not-true _ (f .0);
@@ -111,21 +111,21 @@ module _ (m : Newest) (g : Given) (amount space : ℕ) (j : List ℕ) where
   short-scratch h = simp (lt-leb (room (g .track)) space h)
 
   module _ (h : room (g .track) ≤ space) where
-    pub box-refused : (n : ℕ) → refuses n ≡ boxRule m (g .site) (g .acquirer) amount j → swipeRule m g amount space j ≡ refuses n
+    pub box-refused : (n : ℕ) → refuses n ≡ boxRule m (g .terms) amount j → swipeRule m g amount space j ≡ refuses n
     unfolding swipeRule readyRule
     box-refused n e = rw (le-leb (room (g .track)) space h, ← e)
 
-    pub card-next : (b : ℕ) → gives b ≡ boxRule m (g .site) (g .acquirer) amount j → swipeRule m g amount space j ≡ cardRule g
+    pub card-next : (b : ℕ) → gives b ≡ boxRule m (g .terms) amount j → swipeRule m g amount space j ≡ cardRule g
     unfolding swipeRule readyRule
     card-next b e = rw (le-leb (room (g .track)) space h, ← e)
 
 -- a card that pays is booked: x is the answered serial and k the journal's bytes
 pub booked : (g : Given) (amount clock space b : ℕ) (j : List ℕ) (p : Payer) (x : ℕ) (k : List ℕ) → room (g .track) ≤ space
-    → gives b ≡ boxRule (Is b) (g .site) (g .acquirer) amount j → cardRule g ≡ gives p
+    → gives b ≡ boxRule (Is b) (g .terms) amount j → cardRule g ≡ gives p
     → x ≡ b + 1 → k ≡ put j (place (slotsOf j) (b + 1)) (record32 (b + 1) clock amount (p .label) (p .pan)) → Charges (Is b) g amount clock space j (Serial x) k
 unfolding swipeAnswer swipeBytes
 booked g amount clock space b j p x k h r e s f =
-    let o = opened (g .site) (g .acquirer) amount j (Is b) b (sym r) in
+    let o = opened (g .terms) amount j (Is b) b (sym r) in
     let pays = card-next (Is b) g amount space j h b r ∙ e in
     let d = book-done j (p .pan) (p .label) amount b (card-fine g p e) (o .some) (o .serials) (o .slot) in
     let w = book-wrote (Is b) j (p .pan) (p .label) amount clock (b + 1) x k s d f in

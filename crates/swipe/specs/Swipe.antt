@@ -1,4 +1,4 @@
--- One swipe, from the stripe to the journal (document 01, 'The swipe'; request E1, for cards on track 1).
+-- One swipe, from the stripe to the journal (document 01, 'The swipe'; requests E1, for cards on track 1, and E8, for blocked cards).
 use Prim.Native.Nat.{ℕ, _≤_}
 use mathlib.Core.Path.{_≡_}
 use mathlib.Core.Bool.{not, cond}
@@ -8,6 +8,7 @@ use lib.ListN.{length, replicate}
 use Rattle.text.specs.Numbers.{put}
 use Rattle.reasons.specs.Reasons.{Outcome, gives, refuses, demand, andThen, after, numberOf}
 use Rattle.ranges.specs.Ranges.{tableOk}
+use Rattle.hotlist.specs.Hotlist.{listOk}
 use Rattle.slots.specs.Journal.{NewestIs}
 use Rattle.slots.specs.Views.{formed, newest}
 use Rattle.slots.specs.declared.Newest.{Newest}
@@ -16,24 +17,25 @@ use Rattle.swipe.specs.declared.Swiped.{Swiped}
 use Rattle.swipe.specs.declared.Swiped.the-variants.{Serial, Refused}
 use Rattle.swipe.specs.declared.Bookable.{Bookable}
 use Rattle.swipe.specs.declared.Bookable.the-variants as bookable
-use Rattle.payer.specs.Payer.{room, Given, Payer, cardRule}
+use Rattle.payer.specs.Payer.{room, Terms, Given, Payer, cardRule}
 
--- of the box, before any card: "16, 14, 17, 19, 18"; it gives the newest serial, behind which a payment is booked
-unfoldable pub boxRule : Newest → List ℕ → List ℕ → ℕ → List ℕ → Outcome ℕ
-boxRule m site acquirer amount j =
+-- of the box, before any card: "16, 14, 17, 19, 18", with 21 "just after 14"; it gives the newest serial, behind which a payment is booked
+unfoldable pub boxRule : Newest → Terms → ℕ → List ℕ → Outcome ℕ
+boxRule m t amount j =
     demand (formed m) 16
-    (demand (tableOk site) 14
-    (demand (tableOk acquirer) 14
+    (demand (tableOk (t .site)) 14
+    (demand (tableOk (t .acquirer)) 14
+    (demand (listOk (t .hot) (t .digits)) 21
     (demand (not (eqb amount 0)) 17
     (demand (not (eqb (newest m) 4294967295)) 19
     (demand (not (full j)) 18
-    (gives (newest m)))))))
+    (gives (newest m))))))))
 
--- "scratch under 37 (1), 16, 14, 17, 19, 18", with so many bytes of scratch
+-- "scratch under 37 (1), 16, 14, 17, 19, 18", with 21, and so many bytes of scratch
 unfoldable pub readyRule : Newest → Given → ℕ → ℕ → List ℕ → Outcome ℕ
-readyRule m g amount space j = demand (leb (room (g .track)) space) 1 (boxRule m (g .site) (g .acquirer) amount j)
+readyRule m g amount space j = demand (leb (room (g .track)) space) 1 (boxRule m (g .terms) amount j)
 
--- "Order: scratch under 37 (1), 16, 14, 17, 19, 18, then the reading's refusals, layout 6, Luhn 4, 15"
+-- "Order: scratch under 37 (1), 16, 14, 17, 19, 18, then the reading's refusals, layout 6, Luhn 4, 15", with 21 and 22 in their places
 unfoldable pub swipeRule : Newest → Given → ℕ → ℕ → List ℕ → Outcome Payer
 swipeRule m g amount space j = andThen (readyRule m g amount space j) (λ _. cardRule g)
 

@@ -10,7 +10,7 @@ ghost use Prim.Native.Nat.{_≤_};
 ghost use lib.ListN.{length, drop, replicate};
 ghost use Rattle.text.specs.Numbers.{put};
 ghost use Rattle.slots.specs.Views.{Seen};
-ghost use Rattle.payer.specs.Payer.{room, given};
+ghost use Rattle.payer.specs.Payer.{room, terms, given};
 ghost use Rattle.swipe.specs.Swipe.{boxRule, saidBookable, Charges, Swipes};
 
 // ---- the box
@@ -21,9 +21,17 @@ pub enum Bookable {
     Refused(Reason),
 }
 
-// The journal, the tables, the amount, the serials, and a slot that is not held.
-fn ready(site: &[u8], acquirer: &[u8], amount: u32, journal: &[u8]) -> Bookable
-    ensures { λ r. ⌜ Seen (now (journal .entry)) (λ m. saidBookable r ≡ boxRule m (now (site .entry)) (now (acquirer .entry)) amount (now (journal .entry))) ⌝ }
+// The journal, the tables, the hot list, the amount, the serials, and a slot that is not held.
+fn ready(
+    site: &[u8],
+    acquirer: &[u8],
+    hot: &[u64],
+    digits: u32,
+    amount: u32,
+    journal: &[u8],
+) -> Bookable
+    ensures { λ r. ⌜ Seen (now (journal .entry)) (λ m. saidBookable r ≡ boxRule m
+        (terms (now (site .entry)) (now (acquirer .entry)) (now (hot .entry)) digits) amount (now (journal .entry))) ⌝ }
 {
     match slots::newest_of(journal) {
         Newest::Malformed => Bookable::Refused(Reason::BadJournal),
@@ -31,6 +39,9 @@ fn ready(site: &[u8], acquirer: &[u8], amount: u32, journal: &[u8]) -> Bookable
             let tables = ranges::inner::tables_ok(site, acquirer);
             if !tables {
                 return Bookable::Refused(Reason::BadTable);
+            }
+            if !hotlist::inner::list_ok(hot, digits) {
+                return Bookable::Refused(Reason::BadHotList);
             }
             if amount == 0 {
                 return Bookable::Refused(Reason::ZeroAmount);
@@ -59,19 +70,30 @@ fn book_card(
     bits: u64,
     site: &[u8],
     acquirer: &[u8],
+    hot: &[u64],
+    digits: u32,
     amount: u32,
     clock: u32,
     scratch: &mut [u8],
     journal: &mut [u8],
 ) -> Swiped
     requires { ⌜ room track ≤ length (now scratch) ⌝ }
-    ensures { λ r. ⌜ Seen (now (journal .entry)) (λ m. Charges m (given track (now (stream .entry)) bits (now (site .entry)) (now (acquirer .entry)))
-        amount clock (length (now (scratch .entry))) (now (journal .entry)) r (now (journal .exit)))
-        × (drop (room track) (now (scratch .exit)) ≡ drop (room track) (now (scratch .entry))) ⌝ }
+    ensures { λ r. ⌜ Seen (now (journal .entry)) (λ m. Charges m (given track (now (stream .entry)) bits
+        (terms (now (site .entry)) (now (acquirer .entry)) (now (hot .entry)) digits)) amount clock (length (now (scratch .entry)))
+        (now (journal .entry)) r (now (journal .exit))) × (drop (room track) (now (scratch .exit)) ≡ drop (room track) (now (scratch .entry))) ⌝ }
 {
-    match ready(site, acquirer, amount, journal) {
+    match ready(site, acquirer, hot, digits, amount, journal) {
         Bookable::Refused(r) => Swiped::Refused(r),
-        Bookable::After(b) => match card_of_stripe(track, stream, bits, site, acquirer, scratch) {
+        Bookable::After(b) => match card_of_stripe(
+            track,
+            stream,
+            bits,
+            site,
+            acquirer,
+            hot,
+            digits,
+            scratch,
+        ) {
             Card::Refused(r) => Swiped::Refused(r),
             Card::Pays(at, n, label) => {
                 let end = at + n;
@@ -104,12 +126,15 @@ pub fn swipe(
     bits: u64,
     site: &[u8],
     acquirer: &[u8],
+    hot: &[u64],
+    digits: u32,
     amount: u32,
     clock: u32,
     scratch: &mut [u8],
     journal: &mut [u8],
 ) -> Swiped
-    ensures { λ r. ⌜ Swipes (given track (now (stream .entry)) bits (now (site .entry)) (now (acquirer .entry))) amount clock
+    ensures { λ r. ⌜ Swipes (given track (now (stream .entry)) bits
+        (terms (now (site .entry)) (now (acquirer .entry)) (now (hot .entry)) digits)) amount clock
         (now (scratch .entry)) (now (journal .entry)) r (now (scratch .exit)) (now (journal .exit)) ⌝ }
 {
     let n = room_of(track);
@@ -122,6 +147,8 @@ pub fn swipe(
         bits,
         site,
         acquirer,
+        hot,
+        digits,
         amount,
         clock,
         scratch,

@@ -1,5 +1,4 @@
 -- Every byte of a text passes a test: one turn of a loop, its end, one place, a change and an exchange. Over any test.
---
 use Prim.Native.Nat.{ℕ, zero, suc, _+_, _<_, _≤_}
 use mathlib.Core.Path.{_≡_, refl, sym, ap, _∙_}
 use mathlib.Core.Bool.{Bool, true, false, _&&_, and-true, and-assoc}

@@ -1,5 +1,4 @@
 -- Equal remainders: the laws of sums and products, over any divisor, and those that divide.
---
 use Prim.Native.Nat.{ℕ, suc, _+_, _*_, _%_, _/_}
 use mathlib.Core.Path.{_≡_, refl, sym, ap, _∙_}
 use native.Mathlib.Omega.{arith}

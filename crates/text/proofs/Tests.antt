@@ -1,5 +1,4 @@
 -- Tests on numbers, by cases.
---
 use Prim.Native.Nat.{ℕ, _≤_, _<_}
 use mathlib.Core.Path.{_≡_, refl}
 use mathlib.Core.Bool.{Bool, true, false, _&&_, and-false}

@@ -7,11 +7,11 @@ use Rattle.commands.proofs.take_lines.Statement.{statement}
 use Rattle.commands.proofs.take_lines.Tie as tie
 
 abbrev Inv-loop : tie.InvT-loop
-Inv-loop out₀ input₀ line₀ site₀ acquirer₀ journal₀ st₀ source₀ turns₀ out input line site acquirer journal st source turns =
+Inv-loop out₀ input₀ line₀ site₀ acquirer₀ hot₀ journal₀ st₀ source₀ turns₀ out input line site acquirer hot journal st source turns =
     (source .at ≤ source .end) × (source .end ≤ 65536) × (length journal ≡ length journal₀)
 
 abbrev μ-loop : tie.MeasureT-loop
-μ-loop out₀ input₀ line₀ site₀ acquirer₀ journal₀ st₀ source₀ turns₀ out input line site acquirer journal st source turns = turns
+μ-loop out₀ input₀ line₀ site₀ acquirer₀ hot₀ journal₀ st₀ source₀ turns₀ out input line site acquirer hot journal st source turns = turns
 
 fresh-requires : tie.Need-fresh-requires Inv-loop μ-loop
 fresh-requires c κs = search needs
@@ -35,7 +35,7 @@ loop-again : tie.Need-loop-again Inv-loop μ-loop
 loop-again c =
     let call = c .before .before .before in
     let arguments = call .before .before .before in
-    let not-ended = arguments .before .before .before in
+    let not-ended = arguments .before .before .before .before in
     let asking = not-ended .before .before .before in
     let turn = asking .before .before .before in
     (search needs, search needs, search (needs, turn .loop .inv .2))

@@ -6,10 +6,10 @@ use Rattle.exchange.proofs.run.Statement.{statement}
 use Rattle.exchange.proofs.run.Tie as tie
 
 returns : tie.Need-returns
-returns c = (rule-not-whole _ _ _ _ _ _ _ (search needs), tt)
+returns c = (rule-not-whole _ _ _ _ _ _ (search needs), tt)
 
 returns-2 : tie.Need-returns-2
-returns-2 c = (rule-too-long _ _ _ _ _ _ _ (omega arith) (omega arith), tt)
+returns-2 c = (rule-too-long _ _ _ _ _ _ (omega arith) (omega arith), tt)
 
 clear-requires : tie.Need-clear-requires
 clear-requires c κs = search needs
@@ -33,15 +33,15 @@ abbrev clearing : tie.After-run-all → tie.After-clear
 clearing c = c .before .before .before .before .before .before
 
 abbrev start : tie.After-clear → tie.Start
-start c = c .before .before .before .before .before .before .before .before .before .before
+start c = c .before .before .before .before .before .before .before .before .before .before .before
 
 returns-3 : tie.Need-returns-3
 returns-3 c =
     let at-run = ran c in
     let at-clear = clearing at-run in
     let a = start at-clear .args .air .now in
-    let w = cleared-ran _ _ _ _ _ a _ _ _ _ _ _ (at-clear .clear .ensures) (at-run .run-all .ensures) in
-    (rule-ran _ _ _ _ _ a _ _ _ _ _ (omega arith) (omega arith) w, agreed _ _ _ _ _ a _ _ _ _ _ w)
+    let w = cleared-ran _ _ _ _ a _ _ _ _ _ _ (at-clear .clear .ensures) (at-run .run-all .ensures) in
+    (rule-ran _ _ _ _ a _ _ _ _ _ (omega arith) (omega arith) w, agreed _ _ _ _ a _ _ _ _ _ w)
 
 pub run-spec : {M : Type 1} → statement M
 run-spec =

@@ -2,6 +2,7 @@ use Prim.Native.Nat.{_-_, _/_, _≤_}
 use native.Mathlib.Omega.{arith}
 use lib.ListN.{length}
 use borrow.Author.Needs.{needs}
+use Rattle.payer.specs.Payer.{terms}
 use Rattle.plays.proofs.Sums.{bounded-fits}
 use Rattle.exchange.specs.Exchange.{asState}
 use Rattle.exchange.proofs.Going.{Going, going-start, going-turn, going-done}
@@ -9,14 +10,14 @@ use Rattle.exchange.proofs.run_all.Statement.{statement}
 use Rattle.exchange.proofs.run_all.Tie as tie
 
 abbrev Inv-loop : tie.InvT-loop
-Inv-loop script site acquirer scratch₀ journal₀ air₀ n host₀ zero₀ totals₀ i₀ scratch journal air host zero totals i =
-    Going script site acquirer (asState scratch₀ journal₀ air₀ host₀ zero₀) (asState scratch journal air host zero) n i totals
+Inv-loop script site acquirer hot digits scratch₀ journal₀ air₀ n host₀ zero₀ totals₀ i₀ scratch journal air host zero totals i =
+    Going script (terms site acquirer hot digits) (asState scratch₀ journal₀ air₀ host₀ zero₀) (asState scratch journal air host zero) n i totals
 
 abbrev μ-loop : tie.MeasureT-loop
-μ-loop script site acquirer scratch₀ journal₀ air₀ n host₀ zero₀ totals₀ i₀ scratch journal air host zero totals i = n - i
+μ-loop script site acquirer hot digits scratch₀ journal₀ air₀ n host₀ zero₀ totals₀ i₀ scratch journal air host zero totals i = n - i
 
 abbrev start : tie.At-loop Inv-loop μ-loop → tie.Start Inv-loop μ-loop
-start c = c .before .before .before .before .before .before .before .before
+start c = c .before .before .before .before .before .before .before .before .before
 
 -- where a turn that was taken began
 abbrev began : tie.After-turn Inv-loop μ-loop → tie.At-loop Inv-loop μ-loop
@@ -32,7 +33,7 @@ counted-requires : tie.Need-counted-requires Inv-loop μ-loop
 counted-requires c κs = search needs
 
 loop-holds : tie.Need-loop-holds Inv-loop μ-loop
-loop-holds c = going-start _ _ _ _ _ _ (c .counted .ensures)
+loop-holds c = going-start _ _ _ _ _ (c .counted .ensures)
 
 mul-turn : tie.Need-mul-turn Inv-loop μ-loop
 mul-turn c = omega (arith, few (c .before))
@@ -56,7 +57,7 @@ loop-less c = omega arith
 loop-again : tie.Need-loop-again Inv-loop μ-loop
 loop-again c =
     let t = taken (c .before) in
-    going-turn _ _ _ _ _ _ _ _ _ _ _ _ _ (began t .loop .inv) (search needs) (t .turn .ensures) (c .add .ensures) (search needs) (search needs) (search needs)
+    going-turn _ _ _ _ _ _ _ _ _ _ _ _ (began t .loop .inv) (search needs) (t .turn .ensures) (c .add .ensures) (search needs) (search needs) (search needs)
 
 same-length : tie.Need-same-length Inv-loop μ-loop
 same-length c = c .before .loop .inv .scratch-long
@@ -68,7 +69,7 @@ same-length-3 : tie.Need-same-length-3 Inv-loop μ-loop
 same-length-3 c = c .before .loop .inv .air-long
 
 returns : tie.Need-returns Inv-loop μ-loop
-returns c = going-done _ _ _ _ _ _ _ _ _ _ (c .before .loop .inv) (search needs)
+returns c = going-done _ _ _ _ _ _ _ _ _ (c .before .loop .inv) (search needs)
 
 pub run-all-spec : {M : Type 1} → statement M
 run-all-spec =

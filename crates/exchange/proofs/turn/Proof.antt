@@ -5,11 +5,11 @@ use borrow.Author.Needs.{needs}
 use Rattle.exchange.proofs.turn.Statement.{statement}
 use Rattle.exchange.proofs.turn.Tie as tie
 
-abbrev start : tie.After-shared-slice-known4 → tie.Start
-start c = c .before .before .before .before .before .before .before
+abbrev start : tie.After-shared-slice-known5 → tie.Start
+start c = c .before .before .before .before .before .before .before .before
 
 -- where the kind was read that passed the tests before a place
-abbrev kind2 : tie.Else2 → tie.After-shared-slice-known4
+abbrev kind2 : tie.Else2 → tie.After-shared-slice-known5
 kind2 c = c .before .before
 
 shared-slice-read-kind : tie.Need-shared-slice-read-kind
@@ -46,7 +46,7 @@ returns c =
     let serial = place .before .before in
     let a = start (serial .before .before .before) .args in
     let q = c .quiet .ensures in
-    as-turn _ _ _ _ _ _ ((λ i. send (serial .u32-at .ensures i) (place .u32-at2 .ensures i)) ∙ is-send (a .script .now) _ _ _ (a .at) (search needs))
+    as-turn _ _ _ _ _ _ ((λ i. send (serial .u32-at .ensures i) (place .u32-at2 .ensures i)) ∙ is-send (a .script .now) _ _ (a .at) (search needs))
     (took-sent _ _ _ (q .2) _ _ _ (q .0) (q .1) (b .send .ensures))
 
 add-u32-at-3 : tie.Need-add-u32-at-3
@@ -65,7 +65,7 @@ returns-2 : tie.Need-returns-2
 returns-2 c =
     let place = c .before in
     let a = start (place .before .before .before .before) .args in
-    as-turn _ _ _ _ _ _ ((λ i. deliver (place .u32-at3 .ensures i)) ∙ is-deliver (a .script .now) _ _ _ (a .at) (search needs)) (c .hear .ensures _ _ _)
+    as-turn _ _ _ _ _ _ ((λ i. deliver (place .u32-at3 .ensures i)) ∙ is-deliver (a .script .now) _ _ (a .at) (search needs)) (c .hear .ensures _ _ _)
 
 answer-requires : tie.Need-answer-requires
 answer-requires c κs = search needs
@@ -77,7 +77,7 @@ returns-3 : tie.Need-returns-3
 returns-3 c =
     let b = c .before .before in
     let a = start (kind2 (b .before .before .before)) .args in
-    as-turn _ _ _ _ _ _ (is-answer (a .script .now) _ _ _ (a .at) (search needs)) (b .answer .ensures _ _)
+    as-turn _ _ _ _ _ _ (is-answer (a .script .now) _ _ (a .at) (search needs)) (b .answer .ensures _ _)
 
 own-call-requires : tie.Need-own-call-requires
 own-call-requires c κs = search needs
@@ -92,7 +92,7 @@ returns-4 : tie.Need-returns-4
 returns-4 c =
     let b = c .before .before .before .before in
     let a = start (kind2 (b .before .before .before .before)) .args in
-    as-turn _ _ _ _ _ _ (is-own (a .script .now) _ _ _ (a .at) (search needs) (search needs) (search needs))
+    as-turn _ _ _ _ _ _ (is-own (a .script .now) _ _ (a .at) (search needs) (search needs) (search needs))
     (took-call _ _ _ _ _ _ refl refl (b .own-call .ensures))
 
 pub turn-spec : {M : Type 1} → statement M

@@ -1,5 +1,4 @@
 -- `luhn::weigh` meets its contract: at each `return` the tests that led there say which case of `weighed` holds.
---
 use Prim.Native.Nat.{_*_}
 use native.Mathlib.Omega.{arith}
 use borrow.Author.Needs.{needs}

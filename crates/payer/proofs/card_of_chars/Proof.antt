@@ -9,7 +9,7 @@ use Rattle.payer.proofs.card_of_chars.Statement.{statement}
 use Rattle.payer.proofs.card_of_chars.Tie as tie
 
 abbrev start : tie.After-pan-spot → tie.Start
-start c = c .before .before .before .before
+start c = c .before .before .before .before .before
 
 -- what the division said
 spot : (c : tie.After-pan-spot) (r : Spot) → c .pan-spot .result ≡ r → divisionRule (start c .args .track) (start c .args .chars .now) ≡ saidSpot r
@@ -27,17 +27,17 @@ enum-known-at c = search needs
 card-of-pan-requires : tie.Need-card-of-pan-requires
 card-of-pan-requires c κs =
     let s = start (c .before .before .before) in
-    (s .pre .0, s .pre .1, pan-there (s .args .track) (s .args .chars .now) _ (spot (c .before .before .before) _ (c .before .at .given .1)))
+    (s .pre, pan-there (s .args .track) (s .args .chars .now) _ (spot (c .before .before .before) _ (c .before .at .given .1)))
 
 returns : tie.Need-returns
 returns c =
     let d = c .before .before .before in
-    (sym (bad-layout _ _ _ _ _ (spot d _ (c .before .r .given .1))), omega arith)
+    (sym (bad-layout _ _ _ _ (spot d _ (c .before .r .given .1))), omega arith)
 
 returns-2 : tie.Need-returns-2
 returns-2 c =
     let k = c .before in
-    (c .card-of-pan .ensures .0 ∙ sym (with-pan _ _ _ _ _ _ (spot (k .before .before .before) _ (k .before .at .given .1))), c .card-of-pan .ensures .1)
+    (c .card-of-pan .ensures .0 ∙ sym (with-pan _ _ _ _ _ (spot (k .before .before .before) _ (k .before .at .given .1))), c .card-of-pan .ensures .1)
 
 pub card-of-chars-spec : {M : Type 1} → statement M
 card-of-chars-spec =

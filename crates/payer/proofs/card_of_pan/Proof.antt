@@ -1,23 +1,25 @@
--- `card_of_pan` asks Luhn, then the tables.
-use Prim.Native.Nat.{ℕ}
+-- `card_of_pan` asks Luhn, the tables, then the hot list.
+use Prim.Native.Nat.{ℕ, _+_, _-_}
 use mathlib.Core.Path.{_≡_, sym, ap, _∙_}
+use mathlib.Core.Bool.{true}
 use mathlib.Core.List.{List}
 use native.Mathlib.Omega.{arith}
 use Rattle.reasons.specs.Reasons.{gives, said}
 use Rattle.luhn.specs.Luhn.{luhnRule}
 use Rattle.ranges.specs.Ranges.{labelRule}
 use Rattle.ranges.specs.Inner.{saidLabel}
-use lib.ListN.{length}
+use lib.ListN.{length, take, drop}
 use Rattle.text.specs.Bytes.{allDigits}
 use Rattle.pan.specs.Pan.{panLength}
+use Rattle.hotlist.specs.Hotlist.{listed}
 use Rattle.payer.specs.Payer.{partOf}
-use Rattle.payer.proofs.Cards.{part-is, luhn-refused, no-label, with-label}
+use Rattle.payer.proofs.Cards.{part-is, luhn-refused, no-label, is-listed, with-label}
 use borrow.Author.Needs.{needs}
 use Rattle.payer.proofs.card_of_pan.Statement.{statement}
 use Rattle.payer.proofs.card_of_pan.Tie as tie
 
 abbrev start : tie.After-test → tie.Start
-start c = c .before .before .before .before .before
+start c = c .before .before .before .before .before .before
 
 -- the PAN that is asked about
 abbrev pan : tie.Start → List ℕ
@@ -35,6 +37,29 @@ label-said : (c : tie.After-label-tested) →
 label-said c =
     let a = start (c .before .before .before) .args in
     sym (c .label-tested .ensures ∙ ap (labelRule (a .site .now) (a .acquirer .now)) (part-is (a .chars .now) (a .at) (a .n)))
+
+-- where the tables gave a label
+abbrev labelled : tie.After-known-told3 → tie.After-label-tested
+labelled c = c .before .before .before
+
+label-is : (c : tie.After-known-told3) →
+    let s = start (labelled c .before .before .before) in
+    labelRule (s .args .site .now) (s .args .acquirer .now) (pan s) ≡ gives (c .before .l .given .0 .0)
+label-is c = label-said (labelled c) ∙ ap saidLabel (c .before .l .given .1)
+
+hot-said : (c : tie.After-is-listed) →
+    let s = start (labelled (c .before) .before .before .before) in
+    listed (s .args .hot .now) (s .args .digits) (pan s) ≡ c .is-listed .result
+hot-said c =
+    let a = start (labelled (c .before) .before .before .before) .args in
+    sym (c .is-listed .ensures ∙ ap (listed (a .hot .now) (a .digits)) (part-is (a .chars .now) (a .at) (a .n)))
+
+-- the part of the characters that is lent has as many digits
+part-counts : (s : tie.Start) → panLength (length (take (s .args .at + s .args .n - s .args .at) (drop (s .args .at) (s .args .chars .now)))) ≡ true
+part-counts s = ap (λ (p : List ℕ). panLength (length p)) (part-is (s .args .chars .now) (s .args .at) (s .args .n)) ∙ s .pre .1 .count
+
+part-digits : (s : tie.Start) → allDigits (take (s .args .at + s .args .n - s .args .at) (drop (s .args .at) (s .args .chars .now))) ≡ true
+part-digits s = ap allDigits (part-is (s .args .chars .now) (s .args .at) (s .args .n)) ∙ s .pre .1 .digits
 
 add-end : tie.Need-add-end
 add-end c = search needs
@@ -58,10 +83,7 @@ enum-told : tie.Need-enum-told
 enum-told c = search needs
 
 label-tested-requires : tie.Need-label-tested-requires
-label-tested-requires c κs =
-    let s = start (c .before .before) in
-    let e = part-is (s .args .chars .now) (s .args .at) (s .args .n) in
-    (s .pre .0, s .pre .1, ap (λ (p : List ℕ). panLength (length p)) e ∙ s .pre .2 .count, ap allDigits e ∙ s .pre .2 .digits)
+label-tested-requires c κs = let s = start (c .before .before) in (s .pre .0 .site-right, s .pre .0 .acquirer-right, part-counts s, part-digits s)
 
 enum-known-r-2 : tie.Need-enum-known-r-2
 enum-known-r-2 c = search needs
@@ -69,23 +91,32 @@ enum-known-r-2 c = search needs
 enum-known-l : tie.Need-enum-known-l
 enum-known-l c = search needs
 
+is-listed-requires : tie.Need-is-listed-requires
+is-listed-requires c κs = let s = start (labelled c .before .before .before) in (s .pre .0 .hot-right, part-counts s, part-digits s)
+
 returns : tie.Need-returns
 returns c =
-    let t = c .before .before .before in
-    let p = start t .pre .2 in
-    (sym (luhn-refused _ _ _ (p .count) (p .digits) _ (luhn-said t ∙ ap said (c .before .r .given .1))), omega arith)
+    let k = c .before .before in
+    let p = start (labelled k .before .before .before) .pre .1 in
+    (sym (is-listed _ _ (p .count) (p .digits) _ (passed (labelled k .before)) (label-is k) (hot-said (c .before) ∙ c .if1 .taken)), omega arith)
 
 returns-2 : tie.Need-returns-2
 returns-2 c =
-    let l = c .before .before .before in
-    let p = start (l .before .before .before) .pre .2 in
-    (sym (no-label _ _ _ (p .count) (p .digits) _ (passed (l .before)) (label-said l ∙ ap saidLabel (c .before .r2 .given .1))), omega arith)
+    let t = c .before .before .before in
+    let p = start t .pre .1 in
+    (sym (luhn-refused _ _ (p .count) (p .digits) _ (luhn-said t ∙ ap said (c .before .r .given .1))), omega arith)
 
 returns-3 : tie.Need-returns-3
 returns-3 c =
     let l = c .before .before .before in
-    let p = start (l .before .before .before) .pre .2 in
-    (sym (with-label _ _ _ (p .count) (p .digits) _ (passed (l .before)) (label-said l ∙ ap saidLabel (c .before .l .given .1))), p .fits)
+    let p = start (l .before .before .before) .pre .1 in
+    (sym (no-label _ _ (p .count) (p .digits) _ (passed (l .before)) (label-said l ∙ ap saidLabel (c .before .r2 .given .1))), omega arith)
+
+returns-4 : tie.Need-returns-4
+returns-4 c =
+    let k = c .before .before in
+    let p = start (labelled k .before .before .before) .pre .1 in
+    (sym (with-label _ _ (p .count) (p .digits) _ (passed (labelled k .before)) (label-is k) (hot-said (c .before) ∙ c .if1 .left)), p .fits)
 
 pub card-of-pan-spec : {M : Type 1} → statement M
 card-of-pan-spec =
@@ -101,6 +132,8 @@ card-of-pan-spec =
     label-tested-requires
     enum-known-r-2
     enum-known-l
+    is-listed-requires
     returns
     returns-2
-    returns-3)
+    returns-3
+    returns-4)

@@ -7,17 +7,17 @@ use native.Mathlib.Omega.{arith}
 use lib.Seq.{length-take-le}
 use Rattle.reasons.specs.Reasons.{gives}
 use Rattle.bits.specs.Reading.{said}
-use Rattle.payer.specs.Payer.{Given, given}
+use Rattle.payer.specs.Payer.{terms, Given, given}
 use Rattle.payer.proofs.Cards.{unread, ReadSo, read-so, read-card}
 use borrow.Author.Needs.{needs}
 use Rattle.payer.proofs.card_of_stripe.Statement.{statement}
 use Rattle.payer.proofs.card_of_stripe.Tie as tie
 
 abbrev start : tie.After-read → tie.Start
-start c = c .before .before .before .before .before .before
+start c = c .before .before .before .before .before .before .before
 
 abbrev card : tie.After-read → Given
-card c = let a = start c .args in given (a .track) (a .stream .now) (a .bits) (a .site .now) (a .acquirer .now)
+card c = let a = start c .args in given (a .track) (a .stream .now) (a .bits) (terms (a .site .now) (a .acquirer .now) (a .hot .now) (a .digits))
 
 -- the scratch before and after the reading
 abbrev scratch : tie.After-read → List ℕ

@@ -7,14 +7,14 @@ use borrow.Author.Needs.{needs}
 use Rattle.plays.proofs.play.Statement.{statement}
 use Rattle.plays.proofs.play.Tie as tie
 
-abbrev start : tie.After-shared-slice-known4 → tie.Start
-start c = c .before .before .before .before .before .before
+abbrev start : tie.After-shared-slice-known5 → tie.Start
+start c = c .before .before .before .before .before .before .before
 
 -- where the kind was read that passed the tests before a place
-abbrev kind2 : tie.Else2 → tie.After-shared-slice-known4
+abbrev kind2 : tie.Else2 → tie.After-shared-slice-known5
 kind2 c = c .before .before
 
-abbrev kind3 : tie.Else3 → tie.After-shared-slice-known4
+abbrev kind3 : tie.Else3 → tie.After-shared-slice-known5
 kind3 c = kind2 (c .before)
 
 shared-slice-read-kind : tie.Need-shared-slice-read-kind
@@ -30,7 +30,7 @@ returns : tie.Need-returns
 returns c =
     let b = c .before .before in
     let a = start (b .before .before .before) .args in
-    as-call _ _ _ _ _ _ (is-book (a .script .now) _ _ _ (a .at) (search needs)) (b .play-book .ensures _)
+    as-call _ _ _ _ _ _ (is-book (a .script .now) _ _ (a .at) (search needs)) (b .play-book .ensures _)
 
 play-release-requires : tie.Need-play-release-requires
 play-release-requires c κs = search needs
@@ -42,7 +42,7 @@ returns-2 : tie.Need-returns-2
 returns-2 c =
     let b = c .before .before in
     let a = start (b .before .before .before .before) .args in
-    as-call _ _ _ _ _ _ (is-release (a .script .now) _ _ _ (a .at) (search needs)) (b .play-release .ensures _)
+    as-call _ _ _ _ _ _ (is-release (a .script .now) _ _ (a .at) (search needs)) (b .play-release .ensures _)
 
 play-swipe-requires : tie.Need-play-swipe-requires
 play-swipe-requires c κs = search needs
@@ -57,7 +57,7 @@ returns-3 : tie.Need-returns-3
 returns-3 c =
     let b = c .before .before .before .before in
     let a = start (kind2 (b .before .before .before .before)) .args in
-    as-call _ _ _ _ _ _ (is-swipe (a .script .now) _ _ _ (a .at) Two (search needs)) (b .play-swipe .ensures)
+    as-call _ _ _ _ _ _ (is-swipe (a .script .now) _ _ (a .at) Two (search needs)) (b .play-swipe .ensures)
 
 play-swipe-requires-2 : tie.Need-play-swipe-requires-2
 play-swipe-requires-2 c κs = search needs
@@ -72,7 +72,7 @@ returns-4 : tie.Need-returns-4
 returns-4 c =
     let b = c .before .before .before .before in
     let a = start (kind3 (b .before .before .before .before)) .args in
-    as-call _ _ _ _ _ _ (is-swipe (a .script .now) _ _ _ (a .at) One (search needs)) (b .play-swipe2 .ensures)
+    as-call _ _ _ _ _ _ (is-swipe (a .script .now) _ _ (a .at) One (search needs)) (b .play-swipe2 .ensures)
 
 counted-requires : tie.Need-counted-requires
 counted-requires c κs = search needs
@@ -80,7 +80,7 @@ counted-requires c κs = search needs
 returns-5 : tie.Need-returns-5
 returns-5 c =
     let a = start (kind3 (c .before .before)) .args in
-    as-call _ _ _ _ _ _ (is-none (a .script .now) _ _ _ (a .at) (search needs) (search needs) (search needs) (search needs))
+    as-call _ _ _ _ _ _ (is-none (a .script .now) _ _ (a .at) (search needs) (search needs) (search needs) (search needs))
     (nothing-came aside _ tt _ _ _ _ _ refl (omega arith) refl refl (c .counted .ensures))
 
 pub play-spec : {M : Type 1} → statement M

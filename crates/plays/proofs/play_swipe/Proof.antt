@@ -1,11 +1,14 @@
-use Rattle.payer.specs.Payer.{given}
+use Rattle.payer.specs.Payer.{Terms, terms, given}
 use Rattle.plays.proofs.Records.{same-swipe, stream-is, swipe-refused-came, swiped-came}
 use borrow.Author.Needs.{needs}
 use Rattle.plays.proofs.play_swipe.Statement.{statement}
 use Rattle.plays.proofs.play_swipe.Tie as tie
 
 abbrev start : tie.After-u32-at → tie.Start
-start c = c .before .before .before .before .before .before
+start c = c .before .before .before .before .before .before .before
+
+abbrev lent : tie.Start → Terms
+lent s = terms (s .args .site .now) (s .args .acquirer .now) (s .args .hot .now) (s .args .digits)
 
 abbrev answered : tie.After-slice-known4 → tie.After-swipe
 answered c = c .before .before .before .before
@@ -74,9 +77,9 @@ returns : tie.Need-returns
 returns c =
     let b = answered (c .before .before .before) in
     let f = b .before .before .before .before in
-    let a = start (f .before .before) .args in
+    let s = start (f .before .before) in
     same-swipe _ _ _ _ _
-    (λ i. given (a .track) (stream-is (a .script .now) (a .at) i) (f .u32-at3 .ensures i) (a .site .now) (a .acquirer .now))
+    (λ i. given (s .args .track) (stream-is (s .args .script .now) (s .args .at) i) (f .u32-at3 .ensures i) (lent s))
     (f .before .before .u32-at .ensures) (f .before .u32-at2 .ensures)
     (swipe-refused-came _ _ _ (search needs) _ _ _ _ _ (b .swipe .ensures) _ _ (c .before .enum-told .given .1) (c .counted .ensures))
 
@@ -90,9 +93,9 @@ returns-2 : tie.Need-returns-2
 returns-2 c =
     let b = answered (c .before .before .before) in
     let f = b .before .before .before .before in
-    let a = start (f .before .before) .args in
+    let s = start (f .before .before) in
     same-swipe _ _ _ _ _
-    (λ i. given (a .track) (stream-is (a .script .now) (a .at) i) (f .u32-at3 .ensures i) (a .site .now) (a .acquirer .now))
+    (λ i. given (s .args .track) (stream-is (s .args .script .now) (s .args .at) i) (f .u32-at3 .ensures i) (lent s))
     (f .before .before .u32-at .ensures) (f .before .u32-at2 .ensures)
     (swiped-came _ _ _ (search needs) _ _ _ _ _ (b .swipe .ensures) _ _ (c .before .enum-told2 .given .1) (c .counted2 .ensures))
 

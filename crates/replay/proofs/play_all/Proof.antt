@@ -2,19 +2,21 @@ use Prim.Native.Nat.{_-_, _/_, _≤_}
 use native.Mathlib.Omega.{arith}
 use lib.ListN.{length}
 use borrow.Author.Needs.{needs}
+use Rattle.payer.specs.Payer.{terms}
 use Rattle.plays.proofs.Sums.{bounded-fits}
 use Rattle.replay.proofs.Scripts.{Going, going-start, going-turn, going-done}
 use Rattle.replay.proofs.play_all.Statement.{statement}
 use Rattle.replay.proofs.play_all.Tie as tie
 
 abbrev Inv-loop : tie.InvT-loop
-Inv-loop script site acquirer scratch₀ journal₀ n t₀ i₀ scratch journal t i = Going script site acquirer scratch₀ journal₀ n i scratch journal t
+Inv-loop script site acquirer hot digits scratch₀ journal₀ n t₀ i₀ scratch journal t i =
+    Going script (terms site acquirer hot digits) scratch₀ journal₀ n i scratch journal t
 
 abbrev μ-loop : tie.MeasureT-loop
-μ-loop script site acquirer scratch₀ journal₀ n t₀ i₀ scratch journal t i = n - i
+μ-loop script site acquirer hot digits scratch₀ journal₀ n t₀ i₀ scratch journal t i = n - i
 
 abbrev start : tie.At-loop Inv-loop μ-loop → tie.Start Inv-loop μ-loop
-start c = c .before .before .before .before .before .before .before
+start c = c .before .before .before .before .before .before .before .before
 
 -- where a turn that played its record began
 abbrev turn : tie.After-play Inv-loop μ-loop → tie.At-loop Inv-loop μ-loop
@@ -30,7 +32,7 @@ counted-requires : tie.Need-counted-requires Inv-loop μ-loop
 counted-requires c κs = search needs
 
 loop-holds : tie.Need-loop-holds Inv-loop μ-loop
-loop-holds c = going-start _ _ _ _ _ _ _ (c .counted .ensures)
+loop-holds c = going-start _ _ _ _ _ _ (c .counted .ensures)
 
 mul-play : tie.Need-mul-play Inv-loop μ-loop
 mul-play c = omega (arith, few (c .before))
@@ -54,7 +56,7 @@ loop-less c = omega arith
 loop-again : tie.Need-loop-again Inv-loop μ-loop
 loop-again c =
     let p = played c in
-    going-turn _ _ _ _ _ _ _ _ _ _ _ _ _ _ (turn p .loop .inv) (search needs) (p .play .ensures) (c .add .ensures) (search needs) (search needs)
+    going-turn _ _ _ _ _ _ _ _ _ _ _ _ _ (turn p .loop .inv) (search needs) (p .play .ensures) (c .add .ensures) (search needs) (search needs)
 
 same-length : tie.Need-same-length Inv-loop μ-loop
 same-length c = c .before .loop .inv .scratch-long
@@ -63,7 +65,7 @@ same-length-2 : tie.Need-same-length-2 Inv-loop μ-loop
 same-length-2 c = c .before .loop .inv .journal-long
 
 returns : tie.Need-returns Inv-loop μ-loop
-returns c = going-done _ _ _ _ _ _ _ _ _ (c .before .loop .inv) (search needs)
+returns c = going-done _ _ _ _ _ _ _ _ (c .before .loop .inv) (search needs)
 
 pub play-all-spec : {M : Type 1} → statement M
 play-all-spec =

@@ -11,7 +11,7 @@ use Rattle.slots.specs.Record.{record32}
 use Rattle.slots.specs.Journal.{slotsOf, place, NewestIs}
 use Rattle.slots.specs.declared.Newest.{Newest}
 use Rattle.slots.specs.declared.Newest.the-variants.{Is}
-use Rattle.payer.specs.Payer.{Given, given, Payer, partOf, cardRule, saidCard, panEnd}
+use Rattle.payer.specs.Payer.{terms, Given, given, Payer, partOf, cardRule, saidCard, panEnd}
 use Rattle.swipe.specs.Swipe.{boxRule, saidBookable}
 use Rattle.payer.specs.declared.Card.{Card}
 use Rattle.payer.proofs.Cards.{part-is}
@@ -21,10 +21,10 @@ use Rattle.swipe.proofs.book_card.Statement.{statement}
 use Rattle.swipe.proofs.book_card.Tie as tie
 
 abbrev start : tie.After-ready → tie.Start
-start c = c .before .before .before .before .before .before .before
+start c = c .before .before .before .before .before .before .before .before
 
 abbrev card : tie.After-ready → Given
-card c = let a = start c .args in given (a .track) (a .stream .now) (a .bits) (a .site .now) (a .acquirer .now)
+card c = let a = start c .args in given (a .track) (a .stream .now) (a .bits) (terms (a .site .now) (a .acquirer .now) (a .hot .now) (a .digits))
 
 abbrev journal : tie.After-ready → List ℕ
 journal c = start c .args .journal .now
@@ -42,18 +42,18 @@ serial-fits c = omega arith
 -- the tests that the box passed
 passed-box : (c : tie.After-known-told2) →
     let a = start (box c) .args in
-    Open (a .site .now) (a .acquirer .now) (a .amount) (a .journal .now) (box c .ready .ensures .view) (serial c)
-passed-box c = opened _ _ _ _ _ _ (sym (box c .ready .ensures .so) ∙ ap saidBookable (c .before .b .given .1))
+    Open (terms (a .site .now) (a .acquirer .now) (a .hot .now) (a .digits)) (a .amount) (a .journal .now) (box c .ready .ensures .view) (serial c)
+passed-box c = opened _ _ _ _ _ (sym (box c .ready .ensures .so) ∙ ap saidBookable (c .before .b .given .1))
 
 formed : (c : tie.After-known-told2) → NewestIs (journal (box c)) (Is (serial c))
 formed c = subst (NewestIs (journal (box c))) (passed-box c .view) (box c .ready .ensures .is)
 
 passes : (c : tie.After-known-told2) →
     let a = start (box c) .args in
-    gives (serial c) ≡ boxRule (Is (serial c)) (a .site .now) (a .acquirer .now) (a .amount) (a .journal .now)
+    gives (serial c) ≡ boxRule (Is (serial c)) (terms (a .site .now) (a .acquirer .now) (a .hot .now) (a .digits)) (a .amount) (a .journal .now)
 passes c =
     let a = start (box c) .args in
-    let rule : Newest → Outcome ℕ = λ m. boxRule m (a .site .now) (a .acquirer .now) (a .amount) (a .journal .now) in
+    let rule : Newest → Outcome ℕ = λ m. boxRule m (terms (a .site .now) (a .acquirer .now) (a .hot .now) (a .digits)) (a .amount) (a .journal .now) in
     sym (ap saidBookable (c .before .b .given .1)) ∙ box c .ready .ensures .so ∙ ap rule (passed-box c .view)
 
 -- what the stripe said: the scratch it left, the payer where there is one
@@ -61,7 +61,11 @@ abbrev told : tie.After-card-of-stripe → tie.After-known-told2
 told c = c .before .before
 
 abbrev left : tie.After-card-of-stripe → List ℕ
-left c = c .card-of-stripe .last .1 .1 .1 .1 .1 .0
+left c = c .card-of-stripe .last .1 .1 .1 .1 .1 .1 .1 .0
+
+-- its length is a number of the machine's
+left-fits : (c : tie.After-card-of-stripe) → length (left c) < 18446744073709551616
+left-fits c = omega arith
 
 abbrev stripe : tie.After-known-told4 → tie.After-card-of-stripe
 stripe c = c .before .before .before .before .before
@@ -91,7 +95,7 @@ enum-known-b : tie.Need-enum-known-b
 enum-known-b c = search needs
 
 card-of-stripe-requires : tie.Need-card-of-stripe-requires
-card-of-stripe-requires c κs = let t = c .before in (start (box t) .pre, passed-box t .site-right, passed-box t .acquirer-right)
+card-of-stripe-requires c κs = let t = c .before in (start (box t) .pre, passed-box t .sound)
 
 enum-known-r-2 : tie.Need-enum-known-r-2
 enum-known-r-2 c = search needs
@@ -100,7 +104,7 @@ enum-known-at : tie.Need-enum-known-at
 enum-known-at c = search needs
 
 add-end : tie.Need-add-end
-add-end c = omega (arith, pan-in c)
+add-end c = omega (arith, pan-in c, left-fits (stripe c))
 
 sub-write-at : tie.Need-sub-write-at
 sub-write-at c = search needs

@@ -16,7 +16,7 @@ room-of-requires c κs = search needs
 
 returns : tie.Need-returns
 returns c =
-    let a = c .before .before .before .before .before .before .before .args in
+    let a = c .before .before .before .before .before .before .before .before .args in
     let h = subst (λ (m : ℕ). length (a .scratch .now) < m) (c .before .room-of .ensures) (c .if1 .taken) in
     let so = refused _ _ _ _ _ _ ShortOutput (short-scratch _ _ _ _ _ h) in
     record { view = Malformed; is = λ l. absurd (omega (arith, h, l)); so = so; scratch = kept-short _ _ h }
@@ -27,7 +27,7 @@ book-card-requires c κs = search needs
 clear-requires : tie.Need-clear-requires
 clear-requires c κs =
     let e = c .before .before .before .before .before .before .before .before in
-    let k = e .before .before .before .before .before .before .before .args .track in
+    let k = e .before .before .before .before .before .before .before .before .args .track in
     (omega (arith, e .if1 .left), omega (arith, e .before .room-of .ensures, room-small k))
 
 same-length : tie.Need-same-length

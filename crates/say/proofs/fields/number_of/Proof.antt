@@ -1,11 +1,8 @@
--- `number`: what is understood is no more than the field holds.
+-- `number_of`: what is understood is no more than the field holds.
 use Rattle.numerals.proofs.Laws.{number-fits}
 use borrow.Author.Needs.{needs}
-use Rattle.say.proofs.fields.number.Statement.{statement}
-use Rattle.say.proofs.fields.number.Tie as tie
-
-word-requires : tie.Need-word-requires
-word-requires c κs = search needs
+use Rattle.say.proofs.fields.number_of.Statement.{statement}
+use Rattle.say.proofs.fields.number_of.Tie as tie
 
 number-in-requires : tie.Need-number-in-requires
 number-in-requires c κs = search needs
@@ -28,11 +25,10 @@ same-length c = search needs
 returns-2 : tie.Need-returns-2
 returns-2 c = search needs
 
-pub number-spec : {M : Type 1} → statement M
-number-spec =
+pub number-of-spec : {M : Type 1} → statement M
+number-of-spec =
     tie.close
     (tie.spec
-    word-requires
     number-in-requires
     enum-known-value
     enum-known-why

@@ -1,0 +1,4 @@
+pub mod Rising
+pub mod Halving
+pub mod Steps
+pub mod Laws
