@@ -110,6 +110,7 @@ static const char card1[] = "B4111111111111111^DOE/JANE^2512101";
 static const char full_track2[] = ";4111111111111111=25121010000000000000?";
 static const char full_track1[] =
     "%B4111111111111111^ABCDEFGHIJKLMNOPQRSTUVWXYZ^2512101FLEET 0123456789 ABCDEFG?";
+static const char no_expiry[] = ";4111111111111111==1010000000000000000?";
 
 static void start(enum call call)
 {
@@ -117,6 +118,9 @@ static void start(enum call call)
     made.r.call = call;
     made.r.label = 7;
     made.r.amount = 250;
+    made.r.year = 2025;
+    made.r.month = 12;
+    made.r.day = 24;
 }
 
 static void lend_text(int buffer, const char *text)
@@ -154,12 +158,12 @@ static const char *full_track(const struct track *t)
     return t == &track1 ? full_track1 : full_track2;
 }
 
-/* The full track in buffer 0: sixteen zeros, the characters with their LRC, sixteen
+/* A full track in buffer 0: sixteen zeros, the characters with their LRC, sixteen
  * zeros. */
-static void lend_track(const struct track *t, bool reversed)
+static void lend_track(const struct track *t, const char *chars, bool reversed)
 {
     uint8_t stream[80] = {0};
-    put_track(t, stream + 2, full_track(t));
+    put_track(t, stream + 2, chars);
     made.r.bits = 16 + t->width * (t->most + 3) + 16;
     made.r.n[0] = (made.r.bits + 7) / 8;
     memset(made.bytes[0], 0, made.r.n[0]);
@@ -173,7 +177,7 @@ static void track_row(const char *name, const struct track *t, bool reversed,
                       door *const does[3])
 {
     start(t == &track1 ? TRACK1_READ : TRACK2_READ);
-    lend_track(t, reversed);
+    lend_track(t, full_track(t), reversed);
     made.r.n[1] = t->most;
     printf("input %s 0 %s with LRC, sixteen zeros before and after%s\n", name, full_track(t),
            reversed ? ", last bit first" : "");
@@ -367,21 +371,28 @@ static void ledger_rows(void)
     ledger_row("ledger_take.refused", 1001, 2, "released");
 }
 
-/* A swipe of the card, which isn't on the hot list. */
-static void swipe_row(const char *name, const struct track *t, bool reversed, unsigned slots,
-                      unsigned numbers)
+/* A swipe of a card, which isn't on the hot list. */
+static void card_row(const char *name, const struct track *t, const char *chars, bool reversed,
+                     unsigned slots, unsigned numbers)
 {
     start(t == &track1 ? SWIPE1 : SWIPE);
-    lend_track(t, reversed);
+    lend_track(t, chars, reversed);
     lend_table(2, 16);
     lend_hot_list(3, numbers, false);
     made.r.n[4] = t->most;
     lend_journal(5, slots, slots / 2);
-    char rest[80];
-    snprintf(rest, sizeof rest, "; the full track, the 16 records, a hot list of %u numbers, "
-             "amount 250", numbers);
+    char rest[160];
+    snprintf(rest, sizeof rest, "; the full track%s, the 16 records, a hot list of %u numbers, "
+             "amount 250, 24 December 2025", chars == no_expiry ? ", = for its expiry" : "",
+             numbers);
     print_journal(name, slots, rest);
     row(name, slots);
+}
+
+static void swipe_row(const char *name, const struct track *t, bool reversed, unsigned slots,
+                      unsigned numbers)
+{
+    card_row(name, t, full_track(t), reversed, slots, numbers);
 }
 
 static void journal_rows(unsigned slots)
@@ -413,6 +424,7 @@ int main(void)
     for (int i = 0; i < 5; i++)
         journal_rows(slots[i]);
     swipe_row("swipe.hot_list", &track2, false, 16, 8192);
+    card_row("swipe.no_expiry", &track2, no_expiry, false, 16, 0);
     walk_rows(16);
     walk_rows(2048);
     return 0;

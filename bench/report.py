@@ -193,12 +193,14 @@ qemu-user (bench/count.c): the same number on every machine, and on every run. A
 from its first instruction to its return, what it calls included; what the program around it
 spends is measured by calls that do nothing, and taken off. Beside the library stands plain C
 for the same rules, tests/reference.c at -O3, in the same program on the same inputs. It reads a
-stripe bit by bit, and finds a card in a hot list by the C library's bsearch. In the rows named
-same_table plain C is tests/reference.c with the library's table in it, the one of request E9, and
-nothing else changed (bench/pairs.c): it reads the characters of track 2 two at a look of ten
-bits. bench/run checks first that it gives what tests/reference.c gives, on the tests' cases.
-Instructions are not time: a division counts as one. Of loops only the survey's has a division by
-a variable, one for each slot, on both sides; a step of a walk has two.
+stripe bit by bit, finds a card in a hot list by the C library's bsearch, and counts the days that
+a card has left month by month; the swipes here are made in the card's expiry month, where it has
+none to add. In the rows named same_table plain C is tests/reference.c with the library's
+table in it, the one of request E9, and nothing else changed (bench/pairs.c): it reads the
+characters of track 2 two at a look of ten bits. bench/run checks first that it gives what
+tests/reference.c gives, on the tests' cases. Instructions are not time: a division counts as one.
+Of loops only the survey's has a division by a variable, one for each slot, on both sides; a step
+of a walk has two.
 """
 
 

@@ -1,8 +1,8 @@
 /*
- * The host: a ledger's file, and what the host does with a message. Its two numbers are
- * kept together, in one write, and synced before the host answers. Here it stands
- * beside the terminal; in the field the radio is between them, and may lose, repeat and
- * reorder what either side sends.
+ * The host: a ledger's file, what the host does with a message, and the date that it
+ * sends. The ledger's two numbers are kept together, in one write, and synced before the
+ * host answers. Here it stands beside the terminal; in the field the radio is between
+ * them, and may lose, repeat and reorder what either side sends.
  */
 #ifndef HOST_H
 #define HOST_H
@@ -67,6 +67,17 @@ static bool host_hears(struct host *h, const uint8_t *message, size_t n, uint32_
     *h = after;
     *answer = after.taken;
     return true;
+}
+
+struct date {
+    uint32_t year, month, day;
+};
+
+/* The date that the host sends. A real host asks its own calendar; this one says the same
+ * every day, so that what the example prints can be compared. */
+static struct date host_date(void)
+{
+    return (struct date){2025, 12, 24};
 }
 
 #endif

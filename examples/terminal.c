@@ -1,7 +1,8 @@
 /*
- * A terminal's round with the C interface: take one swipe, keep it, send what is held
- * to the host, and release by the host's answer. The journal's file is kept as store.h
- * says, the host's ledger, JOURNAL.ledger, as host.h says.
+ * A terminal's round with the C interface: take one swipe on the host's date, keep it,
+ * tell the holder how long the card is good, send what is held to the host, and release
+ * by the host's answer. The journal's file is kept as store.h says, the host's ledger,
+ * JOURNAL.ledger, as host.h says.
  *
  *   cc -Iinclude examples/terminal.c target/staticlib/libgoltwarden.a -o terminal
  *   ./terminal JOURNAL
@@ -43,16 +44,38 @@ static void kept(bool done)
     exit(2);
 }
 
-/* A swipe that is answered 0 is in the file. */
-static uint32_t swipe(struct store *s, uint32_t amount, uint32_t clock, uint32_t *serial)
+/* What a swipe is given. The date is the host's; the clock is the box's, and may be wrong. */
+static struct gw_swipe_inputs inputs(struct store *s, uint8_t scratch[GW_TRACK_BYTES],
+                                     uint32_t amount, struct date date, uint32_t clock)
+{
+    return (struct gw_swipe_inputs){
+        .stream = stream, .stream_n = sizeof stream, .bits = 135,
+        .site = acquirer, .site_n = 0,
+        .acquirer = acquirer, .acquirer_n = sizeof acquirer,
+        .hot = blocked, .hot_n = sizeof blocked / sizeof blocked[0], .hot_length = 16,
+        .amount = amount,
+        .year = date.year, .month = date.month, .day = date.day,
+        .clock = clock,
+        .scratch = scratch, .scratch_n = GW_TRACK_BYTES,
+        .journal = s->journal, .journal_n = store_bytes(s),
+    };
+}
+
+/* A swipe that is answered 0 is in the file, and the holder is told of it. */
+static uint32_t swipe(struct store *s, uint32_t amount, uint32_t clock)
 {
     uint8_t scratch[GW_TRACK_BYTES];
-    uint32_t refusal = gw_swipe(stream, sizeof stream, 135, acquirer, 0, acquirer, sizeof acquirer,
-                                blocked, sizeof blocked / sizeof blocked[0], 16, amount, clock,
-                                scratch, sizeof scratch, s->journal, store_bytes(s), serial);
-    if (!refusal)
-        kept(store_booked(s, *serial));
-    return refusal;
+    uint32_t serial, expires, days;
+    struct gw_swipe_inputs in = inputs(s, scratch, amount, host_date(), clock);
+    uint32_t refusal = gw_swipe_with(&in, &serial, &expires, &days);
+    if (refusal)
+        return refusal;
+    kept(store_booked(s, serial));
+    if (expires)
+        printf("booked: serial %" PRIu32 "; days left to the card: %" PRIu32 "\n", serial, days);
+    else
+        printf("booked: serial %" PRIu32 "; the card has no expiry\n", serial);
+    return 0;
 }
 
 /* A release that is answered 0 is in the file. */
@@ -88,12 +111,11 @@ static uint32_t send_held(const struct store *s, struct host *h, uint32_t *answe
 /* One swipe, then the host's answer. */
 static uint32_t round_trip(struct store *s, struct host *h)
 {
-    uint32_t serial, count, answer = 0;
+    uint32_t count, answer = 0;
     uint64_t sum;
-    uint32_t refusal = swipe(s, 250, 0, &serial);
+    uint32_t refusal = swipe(s, 250, 0);
     if (refusal)
         return refusal;
-    printf("booked: serial %" PRIu32 "\n", serial);
     refusal = send_held(s, h, &answer);
     if (refusal)
         return refusal;

@@ -76,7 +76,7 @@ extern "C" {
 #endif
 
 /* The version of this interface, as gw_version() answers it. */
-#define GW_VERSION 6
+#define GW_VERSION 7
 
 /* The numbered reasons. */
 enum gw_reason {
@@ -102,7 +102,9 @@ enum gw_reason {
     GW_SERIALS_USED_UP = 19, /* serials used up */
     GW_NO_SERIAL = 20,      /* serial not there */
     GW_BAD_HOT_LIST = 21,   /* hot list not rising or too long, or PAN length or a number wrong */
-    GW_LISTED_CARD = 22     /* card on the hot list */
+    GW_LISTED_CARD = 22,    /* card on the hot list */
+    GW_BAD_DATE = 23,       /* date outside 2000 to 2099, or no real day */
+    GW_EXPIRED_CARD = 24    /* card expired */
 };
 
 /* Sizes a caller needs. */
@@ -372,13 +374,24 @@ uint32_t gw_journal_survey(const uint8_t *journal, size_t journal_n,
 
 /* One swipe, from the stripe to the journal: read track 2 either way round,
  * divide its characters, test the PAN by Luhn, find its record in the range tables
- * as gw_range_find does, ask for the PAN in the hot list as gw_hot_find does, and book
- * the amount with that record's label. *serial receives the serial booked. Each swipe
- * checks the whole list.
+ * as gw_range_find does, ask whether the card has expired on the date given, ask for
+ * the PAN in the hot list as gw_hot_find does, and book the amount with that record's
+ * label. *serial receives the serial booked. Each swipe checks the whole list.
+ *
+ * The date is the one that the host sent last: year 2000 to 2099, month, and day. Where the
+ * host hasn't sent one yet, give 0 for all three, and no card is taken. Nothing is
+ * decided by the box's own clock: `clock` may be anything, and is written into the
+ * record. A card is good through the last day of its expiry month, where YY means 20YY:
+ * *expires receives 1, and *days the days left from the date to that last day, 0 on the
+ * day itself. A card without an expiry isn't refused for it: *expires receives 0, and
+ * *days stays as it was.
+ *
  * Order: 1 if the scratch has under 37 bytes; 16; 14 for the site's table, then
- * for the acquirer's; 21 for the hot list; 17 if the amount is 0; 19; 18; then the
- * reading's refusals (7 to 13); 6; 4 (Luhn); 15; 22 if the PAN is listed. A refusal
- * leaves the journal as it was.
+ * for the acquirer's; 21 for the hot list; 17 if the amount is 0; 23 unless the date is
+ * a real day of those years; 19; 18; then the reading's refusals (7 to 13); 6; 4
+ * (Luhn); 15; 24 if the card has expired; 22 if the PAN is listed. A refusal leaves the
+ * journal and the three numbers as they were.
+ *
  * The scratch holds the card's characters while the call is under way. After
  * every answer but refusal 1 its first 37 bytes are zero; no others change, and
  * refusal 1 changes none. */
@@ -386,10 +399,11 @@ uint32_t gw_swipe(const uint8_t *stream, size_t stream_n, uint64_t bits,
                   const uint8_t *site, size_t site_n,
                   const uint8_t *acquirer, size_t acquirer_n,
                   const uint64_t *hot, size_t hot_n, uint32_t hot_length,
-                  uint32_t amount, uint32_t clock,
+                  uint32_t amount, uint32_t year, uint32_t month, uint32_t day,
+                  uint32_t clock,
                   uint8_t *scratch, size_t scratch_n,
                   uint8_t *journal, size_t journal_n,
-                  uint32_t *serial);
+                  uint32_t *serial, uint32_t *expires, uint32_t *days);
 
 /* The same of a card on track 1: gw_swipe's answers in gw_swipe's order, with
  * track 1 read and divided (gw_track1_read, gw_layout1_read) in place of track 2,
@@ -398,10 +412,56 @@ uint32_t gw_swipe1(const uint8_t *stream, size_t stream_n, uint64_t bits,
                    const uint8_t *site, size_t site_n,
                    const uint8_t *acquirer, size_t acquirer_n,
                    const uint64_t *hot, size_t hot_n, uint32_t hot_length,
-                   uint32_t amount, uint32_t clock,
+                   uint32_t amount, uint32_t year, uint32_t month, uint32_t day,
+                   uint32_t clock,
                    uint8_t *scratch, size_t scratch_n,
                    uint8_t *journal, size_t journal_n,
-                   uint32_t *serial);
+                   uint32_t *serial, uint32_t *expires, uint32_t *days);
+
+/* What a swipe is given, by name: so that a caller needn't count the arguments of the
+ * two calls above. Set every member. One that an initialiser leaves out is 0 or NULL,
+ * and NULL isn't allowed for an empty table or list either. */
+struct gw_swipe_inputs {
+    const uint8_t *stream;
+    size_t stream_n;
+    uint64_t bits;
+    const uint8_t *site;
+    size_t site_n;
+    const uint8_t *acquirer;
+    size_t acquirer_n;
+    const uint64_t *hot;
+    size_t hot_n; /* numbers */
+    uint32_t hot_length;
+    uint32_t amount;
+    uint32_t year, month, day; /* the host's date */
+    uint32_t clock;            /* the box's */
+    uint8_t *scratch;
+    size_t scratch_n;
+    uint8_t *journal;
+    size_t journal_n;
+};
+
+/* gw_swipe on these inputs. */
+static inline uint32_t gw_swipe_with(const struct gw_swipe_inputs *in, uint32_t *serial,
+                                     uint32_t *expires, uint32_t *days)
+{
+    return gw_swipe(in->stream, in->stream_n, in->bits, in->site, in->site_n,
+                    in->acquirer, in->acquirer_n, in->hot, in->hot_n, in->hot_length,
+                    in->amount, in->year, in->month, in->day, in->clock,
+                    in->scratch, in->scratch_n, in->journal, in->journal_n,
+                    serial, expires, days);
+}
+
+/* gw_swipe1 on these inputs. */
+static inline uint32_t gw_swipe1_with(const struct gw_swipe_inputs *in, uint32_t *serial,
+                                      uint32_t *expires, uint32_t *days)
+{
+    return gw_swipe1(in->stream, in->stream_n, in->bits, in->site, in->site_n,
+                     in->acquirer, in->acquirer_n, in->hot, in->hot_n, in->hot_length,
+                     in->amount, in->year, in->month, in->day, in->clock,
+                     in->scratch, in->scratch_n, in->journal, in->journal_n,
+                     serial, expires, days);
+}
 
 /* ---- The host's ledger -------------------------------------------------- */
 

@@ -1,6 +1,7 @@
 #include <string.h>
 #include "cases.h"
 #include "encode.h"
+#include "pans.h"
 
 /* ---- Drawing ------------------------------------------------------------ */
 
@@ -603,14 +604,21 @@ static size_t add_field(const struct track *t, uint8_t *s, size_t n)
     return n;
 }
 
+static void put_two_digits(uint8_t *s, uint32_t v)
+{
+    s[0] = (uint8_t)('0' + v / 10);
+    s[1] = (uint8_t)('0' + v % 10);
+}
+
+/* In any year and month, the first year, the last one and February more often. */
 static size_t add_expiry(const struct track *t, uint8_t *s)
 {
     size_t n = add_field(t, s, 4);
-    if (n == 4 && !one_in(8)) {
-        unsigned month = one_in(6) ? below(14) : between(1, 12);
-        s[2] = (uint8_t)('0' + month / 10);
-        s[3] = (uint8_t)('0' + month % 10);
-    }
+    uint32_t month = one_in(6) ? below(14) : one_in(4) ? 2 : between(1, 12);
+    if (n == 4 && one_in(6))
+        put_two_digits(s, one_in(2) ? 0 : 99);
+    if (n == 4 && !one_in(8))
+        put_two_digits(s + 2, month);
     return n;
 }
 
@@ -675,12 +683,6 @@ static const char *const registry[] = {
 #include "examples.inc"
 };
 
-static void put_pair(uint8_t *s, uint32_t pair)
-{
-    s[0] = (uint8_t)('0' + pair / 10);
-    s[1] = (uint8_t)('0' + pair % 10);
-}
-
 /* The pair outside 02 to 98 that leaves the same remainder, where there is one. */
 static uint32_t twin(uint32_t pair)
 {
@@ -698,7 +700,7 @@ static void put_made_pair(struct request r, uint8_t *text, size_t n, bool twinne
     for (int tries = 0; tries < (twinned ? 200 : 1); tries++) {
         if (!made_of(&r, &l, country ? text : NULL, text + 4, n - 4))
             return;
-        put_pair(text + 2, twinned ? twin(l.word[0]) : l.word[0]);
+        put_two_digits(text + 2, twinned ? twin(l.word[0]) : l.word[0]);
         if (twin(l.word[0]) != l.word[0])
             return;
         if (twinned)
@@ -726,7 +728,7 @@ static void odd_pair(uint8_t *text, size_t n)
 {
     static const uint8_t odd[] = {0, 1, 2, 97, 98, 99};
     if (n >= 4 && one_in(16))
-        put_pair(text + 2, odd[below(6)]);
+        put_two_digits(text + 2, odd[below(6)]);
 }
 
 static void make_iban_test(struct made *m)
@@ -986,6 +988,79 @@ static void make_message(struct made *m)
         memset(m->bytes[0], 0, SLOT);
 }
 
+/* ---- Dates -------------------------------------------------------------- */
+
+/* The last day of a month; of February, one of two. */
+static uint32_t draw_last_day(uint32_t month)
+{
+    static const uint8_t days[] = {31, 28, 31, 30, 31, 30, 31, 31, 30, 31, 30, 31};
+    return month == 2 ? 28 + below(2) : days[month - 1];
+}
+
+/* The first day of a month, the last, or any; now and then one that it doesn't have. */
+static uint32_t draw_day(uint32_t month)
+{
+    switch (below(16)) {
+    case 0: return draw_last_day(month) + 1;
+    case 1: return between(1, 31);
+    case 2: case 3: case 4: case 5: return between(1, 28);
+    case 6: case 7: case 8: case 9: return 1;
+    default: return draw_last_day(month);
+    }
+}
+
+/* Any month of 2000 to 2099, the first and the last more often. */
+static uint32_t any_month(void)
+{
+    return JANUARY_2000 + (one_in(2) ? below(1200) : one_in(2) ? 0 : 1199);
+}
+
+/* Mostly the month in which a card expires; else the one before it or behind it, the same a
+ * year earlier or later, or any. */
+static uint32_t draw_month(uint32_t expiry)
+{
+    switch (below(8)) {
+    case 0: return expiry - 1;
+    case 1: return expiry + 1;
+    case 2: return one_in(2) ? expiry - 12 : expiry + 12;
+    case 3: return any_month();
+    default: return expiry;
+    }
+}
+
+/* A number of a date at a border, near the largest, or with one bit above its lowest byte
+ * changed. */
+static uint32_t odd_number(uint32_t v, const uint32_t *borders, uint32_t n)
+{
+    switch (below(4)) {
+    case 0: return v ^ UINT32_C(1) << between(8, 31);
+    case 1: return UINT32_MAX - below(3);
+    default: return borders[below(n)];
+    }
+}
+
+static void spoil_date(struct request *r)
+{
+    static const uint32_t years[] = {0, 1999, 2000, 2099, 2100}, months[] = {0, 1, 12, 13};
+    static const uint32_t days[] = {0, 1, 28, 29, 30, 31, 32};
+    switch (below(3)) {
+    case 0: r->year = odd_number(r->year, years, 5); break;
+    case 1: r->month = odd_number(r->month, months, 4); break;
+    default: r->day = odd_number(r->day, days, 7); break;
+    }
+}
+
+/* A date around the month in which a card expires; around any month if it has none. */
+static void make_date(struct request *r, uint32_t expiry)
+{
+    uint32_t month = draw_month(expiry ? expiry : any_month());
+    r->year = month / 12;
+    r->month = month % 12 + 1;
+    r->day = draw_day(r->month);
+    if (one_in(16))
+        spoil_date(r);
+}
+
 /* ---- The swipes --------------------------------------------------------- */
 
 /* The length of the run of digits that starts a text. */
@@ -1004,6 +1079,7 @@ static void make_rest_of_swipe(struct made *m)
     uint8_t chars[128];
     size_t n = make_characters(t, chars), pan_at = t == &track1;
     make_payment(m);
+    make_date(&m->r, expiry_month(m->r.call, chars, n));
     make_stream(m, t, chars, n);
     const uint8_t *pan = chars + pan_at;
     size_t pan_n = digits_of(pan, n - pan_at);

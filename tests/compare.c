@@ -15,6 +15,7 @@
 #include <string.h>
 #include <unistd.h>
 #include "cases.h"
+#include "dates.h"
 #include "hots.h"
 #include "lent.h"
 #include "reached.h"
@@ -51,9 +52,9 @@ static void print_request(void)
     const struct request *r = &made.r;
     printf("gw_%s\n", call_names[r->call]);
     printf("  bits %" PRIu64 ", PAN length of the hot list %" PRIu32 ", serial %" PRIu32
-           ", amount %" PRIu32 ", clock %" PRIu32 ", label %u, taken %" PRIu32 ", total %" PRIu64
-           "\n", r->bits, r->hot_length, r->serial, r->amount, r->clock, r->label, r->taken,
-           r->total);
+           ", amount %" PRIu32 ", date %" PRIu32 " %" PRIu32 " %" PRIu32 ", clock %" PRIu32
+           ", label %u, taken %" PRIu32 ", total %" PRIu64 "\n", r->bits, r->hot_length, r->serial,
+           r->amount, r->year, r->month, r->day, r->clock, r->label, r->taken, r->total);
     for (int b = 0; b < call_buffers[r->call]; b++)
         print_bytes("lent", b, made.bytes[b], r->n[b]);
 }
@@ -137,6 +138,7 @@ static bool compare(bool print)
     note_shape(&made.r, &lent[REFERENCE], answers[REFERENCE]);
     note_tables(&made.r, &lent[REFERENCE], answers[REFERENCE]);
     note_hot_list(&made.r, &lent[REFERENCE], answers[REFERENCE]);
+    note_date(&made.r, &lent[REFERENCE], answers[REFERENCE]);
     bool agree = same();
     if (!agree)
         printf("A CASE THAT DIFFERS\n");
@@ -183,8 +185,8 @@ static bool run_case(uint64_t number, bool print)
 
 /* ---- Running ------------------------------------------------------------ */
 
-/* What was reached; lengths, shapes, tables and hot lists too, where cases enough were run
- * for them. All four are asked, so that each prints what is missing. */
+/* What was reached; lengths, shapes, tables, hot lists and dates too, where cases enough were
+ * run for them. All five are asked, so that each prints what is missing. */
 static bool report(uint64_t cases)
 {
     uint64_t calls = print_reached();
@@ -192,7 +194,7 @@ static bool report(uint64_t cases)
            cases, calls, seed);
     return refusals_reached()
         && (cases < ENOUGH || (lengths_reached() & shapes_reached() & tables_reached()
-                               & hot_lists_reached()));
+                               & hot_lists_reached() & dates_reached()));
 }
 
 static bool run_cases(uint64_t cases)

@@ -70,7 +70,8 @@ static uint32_t journal_call(const struct request *r, struct lent *l)
     default:
         return (r->call == SWIPE ? gw_swipe : gw_swipe1)(
             b[0], n[0], r->bits, b[1], n[1], b[2], n[2], numbers(b[3]), n[3] / 8, r->hot_length,
-            r->amount, r->clock, b[4], n[4], b[5], n[5], &w[0]);
+            r->amount, r->year, r->month, r->day, r->clock, b[4], n[4], b[5], n[5],
+            &w[0], &w[1], &w[2]);
     }
 }
 

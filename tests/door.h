@@ -26,6 +26,7 @@ struct request {
     uint64_t bits;
     uint32_t hot_length; /* of the PANs on the hot list */
     uint32_t serial, amount, clock;
+    uint32_t year, month, day; /* the host's date */
     uint16_t label;
     uint32_t taken; /* with the total, the host's ledger */
     uint64_t total;

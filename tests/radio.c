@@ -78,6 +78,17 @@ static uint32_t read_clock(void)
     return clock = one_in(300) ? 0 : clock + below(100);
 }
 
+/* The date that the host sent: it goes on whatever the clock does, on the days that every
+ * month has, and from 2099 to 2000 again. */
+static void read_date(struct request *r)
+{
+    static uint32_t day;
+    day = (day + below(30)) % (100 * 12 * 28);
+    r->year = 2000 + day / (12 * 28);
+    r->month = 1 + day / 28 % 12;
+    r->day = 1 + day % 28;
+}
+
 /* What is held, after a call that may have changed it. */
 static void count_held(struct books *b)
 {
@@ -97,6 +108,7 @@ static void work(struct books *b)
         make_next_request(&made, journal, slots * SLOT);
     while (made.r.call == JOURNAL_RELEASE);
     made.r.clock = read_clock();
+    read_date(&made.r);
     for (int i = 0; i < BUFFERS; i++)
         lent.buffer[i] = made.bytes[i];
     uint32_t refusal = library_call(&made.r, &lent);

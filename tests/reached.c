@@ -3,8 +3,8 @@
 #include "cases.h"
 #include "reached.h"
 
-/* The numbers 0 to 22, and one place for any other, which no call may answer. */
-enum { REASONS = 23, OTHER = REASONS, NUMBERS, BITS = 4100 };
+/* The numbers 0 to 24, and one place for any other, which no call may answer. */
+enum { REASONS = 25, OTHER = REASONS, NUMBERS, BITS = 4100 };
 
 const char *const call_names[CALLS] = {
     "version", "luhn_test", "luhn_make", "pan_mask", "range_find", "hot_find", "track2_read",
@@ -18,7 +18,7 @@ const char *const call_names[CALLS] = {
 #define R(n) (UINT32_C(1) << (n))
 #define READING (R(7) | R(8) | R(9) | R(10) | R(11) | R(12) | R(13))
 #define SWIPING (R(1) | R(4) | R(6) | READING | R(14) | R(15) | R(16) | R(17) | R(18) | R(19) \
-                 | R(21) | R(22))
+                 | R(21) | R(22) | R(23) | R(24))
 static const uint32_t call_reasons[CALLS] = {
     [LUHN_TEST] = R(2) | R(3) | R(4), [LUHN_MAKE] = R(2) | R(3),
     [PAN_MASK] = R(1) | R(2) | R(3), [RANGE_FIND] = R(2) | R(3) | R(14) | R(15),

@@ -1,8 +1,8 @@
 /*
- * A second implementation of document 01, and of requests E1, E4, E6 and E8 of document
- * 02, in plain C, written from the paper alone. The tests hold the library against it,
- * call by call and byte by byte; the benchmark runs it as the plain C beside the
- * library.
+ * A second implementation of document 01, and of requests E1, E4, E6, E7 and E8 of
+ * document 02, in plain C, written from the paper alone. The tests hold the library
+ * against it, call by call and byte by byte; the benchmark runs it as the plain C beside
+ * the library.
  *
  * It defines the functions of goltwarden.h, so that the compiler holds it to the
  * header. tests/toolchain.sh gives them the prefix ref_ where both are linked.
@@ -32,7 +32,7 @@
 
 uint32_t gw_version(void)
 {
-    return 6;
+    return 7;
 }
 
 /* ---- Bytes and numbers -------------------------------------------------- */
@@ -1099,6 +1099,100 @@ uint32_t gw_journal_survey(const uint8_t *journal, size_t journal_n,
     return 0;
 }
 
+/* ---- Dates -------------------------------------------------------------- */
+
+struct date {
+    uint32_t year, month, day;
+};
+
+/* In wrong references 2000 is no leap year (126), or 2001 is one (127). */
+static bool is_leap(uint32_t year)
+{
+    return (year % 4 == 0 && (year % 100 != 0 || SLIP(126, year % 400 == 0, false)))
+        || SLIP(127, false, year == 2001);
+}
+
+/* In a wrong reference the months of 30 days and those of 31 are exchanged (128). */
+static uint32_t days_in(uint32_t year, uint32_t month)
+{
+    switch (month) {
+    case 2: return is_leap(year) ? 29 : 28;
+    case 4: case 6: case 9: case 11: return SLIP(128, 30, 31);
+    default: return SLIP(128, 31, 30);
+    }
+}
+
+/* The last day of a month as a date may have it. Wrong references take 29 February in every
+ * year (129) or in none (130), or day 31 in every month (131). */
+static uint32_t last_taken(uint32_t year, uint32_t month)
+{
+    if (WRONG == 129 && month == 2)
+        return 29;
+    if (WRONG == 130 && month == 2)
+        return 28;
+    return SLIP(131, days_in(year, month), 31);
+}
+
+/* Wrong references take 1999 (132), 2100 (133), month 0 (134), month 13 (135) or day 0
+ * (136). */
+static bool is_real(const struct date *d)
+{
+    return within(SLIP(132, 2000, 1999), SLIP(133, 2099, 2100), d->year)
+        && within(SLIP(134, 1, 0), SLIP(135, 12, 13), d->month)
+        && within(SLIP(136, 1, 0), last_taken(d->year, d->month), d->day);
+}
+
+/* The months from January of the year 0 on. */
+static uint32_t month_number(uint32_t year, uint32_t month)
+{
+    return 12 * year + month - 1;
+}
+
+/* The days from a date to the last day of a month, counted month by month. Wrong references
+ * count from the first of the date's month (137), to the first of the month behind (138), or
+ * no leap days (139). */
+static uint32_t days_to_end(const struct date *d, uint32_t end)
+{
+    uint32_t days = days_in(d->year, d->month) - SLIP(137, d->day, 1) + SLIP(138, 0, 1);
+    for (uint32_t m = month_number(d->year, d->month) + 1; m <= end; m++)
+        days += days_in(SLIP(139, m / 12, 2001), m % 12 + 1);
+    return days;
+}
+
+/* What a good card has left: days, or no number. */
+struct left {
+    bool expires;
+    uint32_t days;
+};
+
+/* What a card whose expiry is four digits has left on a date, or 24. In wrong references YY
+ * means 19YY (140); the card expires with the first day of its month (141) or with the last
+ * (142), is good on one day more (143), or in the months of each year up to its own (144). */
+static uint32_t days_left(const struct date *d, const uint8_t expiry[4], struct left *left)
+{
+    uint32_t year = SLIP(140, 2000, 1900) + (uint32_t)decimal(expiry, 2);
+    uint32_t month = (uint32_t)decimal(expiry + 2, 2);
+    uint32_t now = month_number(d->year, d->month), end = month_number(year, month);
+    bool over = SLIP(141, now > end, now >= end);
+    if (WRONG == 143 && now == end + 1 && d->day == 1)
+        return 0;
+    if (SLIP(144, over, over || d->month > month))
+        return 24;
+    left->days = days_to_end(d, end);
+    return SLIP(142, false, left->days == 0) ? 24 : 0;
+}
+
+/* The same of the expiry that a layout found, if there is one. Wrong references refuse a card
+ * without an expiry (145), or don't look for it on track 1 (146). */
+static uint32_t left_on(const struct track *t, const struct date *d, const uint8_t *chars,
+                        const struct layout *l, struct left *left)
+{
+    *left = (struct left){SLIP_ONE(146, l->expiry_at != 0, false), 0};
+    if (!left->expires)
+        return SLIP(145, 0, 24);
+    return days_left(d, chars + l->expiry_at, left);
+}
+
 /* ---- The swipes --------------------------------------------------------- */
 
 /* What a swipe is given to read. */
@@ -1106,11 +1200,33 @@ struct given {
     struct stripe stripe;
     struct tables tables;
     struct hot_list hot;
-    uint32_t amount, clock;
+    uint32_t amount;
+    struct date date;
+    uint32_t clock;
 };
 
-/* What stands before the reading: 16, 14, 21, 17, 19, 18. In wrong references 21 stands
- * before 14 (120), after 17 (121) or nowhere (122). */
+/* The date of a swipe. Wrong references ask the box's clock (147), or look at the lower half
+ * of the year (148) or the lowest byte of month (149) or day (150) alone. */
+static struct date date_of(uint32_t year, uint32_t month, uint32_t day, uint32_t clock)
+{
+    uint32_t today = clock / 86400;
+    if (WRONG == 147)
+        return (struct date){1970 + today / 365, 1 + today / 30 % 12, 1 + today % 28};
+    return (struct date){SLIP(148, year, (uint16_t)year), SLIP(149, month, (uint8_t)month),
+                         SLIP(150, day, (uint8_t)day)};
+}
+
+/* 23, 19, 18. In wrong references 23 stands after 19 (151), after 18 (152) or nowhere (153). */
+static uint32_t before_booking(const struct date *d, const struct view *v)
+{
+    uint32_t refusal = no_room(v);
+    if ((WRONG == 151 && refusal == 19) || (WRONG == 152 && refusal))
+        return refusal;
+    return SLIP(153, is_real(d), true) ? refusal : 23;
+}
+
+/* What stands before the reading: 16, 14, 21, 17, 23, 19, 18. In wrong references 21 stands
+ * before 14 (120), after 17 (121) or nowhere (122), or 23 before 17 (154). */
 static uint32_t before_reading(const uint8_t *journal, size_t n, const struct given *g,
                                struct view *v)
 {
@@ -1124,59 +1240,111 @@ static uint32_t before_reading(const uint8_t *journal, size_t n, const struct gi
         return 14;
     if (SLIP(121, SLIP(122, true, false), g->amount > 0) && bad_hot_list(&g->hot))
         return 21;
+    if (WRONG == 154 && !is_real(&g->date))
+        return 23;
     if (g->amount == 0)
         return 17;
-    return no_room(v);
+    return before_booking(&g->date, v);
 }
 
-/* The reading's refusals, 6, 4, 15, 22; or where the PAN stands in `chars`, in *l, and
- * its range in *f. In wrong references 22 stands before 4 (123) or before 15 (124), or a
- * card on track 1 is never refused with it (125). */
-OVER_TRACK uint32_t read_card(const struct track *t, const struct given *g, uint8_t chars[MOST],
-                              struct layout *l, struct found *f)
+/* A card as it was read: where its fields stand in its characters, its range, and what it has
+ * left on the date. */
+struct card {
+    uint8_t chars[MOST];
+    struct layout l;
+    struct found range;
+    struct left left;
+};
+
+/* 4, 15, 24, 22; or the card's range and what it has left. In wrong references 22 stands
+ * before 4 (123) or before 15 (124), or a card on track 1 is never refused with it (125); and
+ * 24 stands before 4 (155), before 15 (156), after 22 (157) or nowhere (158). */
+OVER_TRACK uint32_t judge_card(const struct track *t, const struct given *g, struct card *c)
+{
+    const uint8_t *pan = c->chars + c->l.pan_at;
+    size_t pan_n = c->l.pan_n;
+    bool expired = left_on(t, &g->date, c->chars, &c->l, &c->left) != 0;
+    bool listed = SLIP_ONE(125, is_listed(&g->hot, pan, pan_n), false);
+    if (WRONG == 155 && expired)
+        return 24;
+    if (WRONG == 123 && listed)
+        return 22;
+    if (!luhn_passes(pan, pan_n))
+        return 4;
+    if (WRONG == 156 && expired)
+        return 24;
+    if (WRONG == 124 && listed)
+        return 22;
+    uint32_t refusal = look_up(&g->tables, pan, pan_n, &c->range);
+    if (refusal)
+        return refusal;
+    if (SLIP(157, SLIP(158, expired, false), expired && !listed))
+        return 24;
+    return listed ? 22 : 0;
+}
+
+/* The reading's refusals, 6, 4, 15, 24, 22; or the card. */
+OVER_TRACK uint32_t read_card(const struct track *t, const struct given *g, struct card *c)
 {
     uint32_t count = 0;
     bool reversed;
-    uint32_t refusal = read_track(t, &g->stripe, chars, &count, &reversed);
+    uint32_t refusal = read_track(t, &g->stripe, c->chars, &count, &reversed);
     if (refusal)
         return refusal;
-    if (!read_layout(t, chars, count, l))
+    if (!read_layout(t, c->chars, count, &c->l))
         return 6;
-    l->pan_at = SLIP(62, l->pan_at, 0);
-    const uint8_t *pan = chars + l->pan_at;
-    if (WRONG == 123 && is_listed(&g->hot, pan, l->pan_n))
-        return 22;
-    if (!luhn_passes(pan, l->pan_n))
-        return 4;
-    if (WRONG == 124 && is_listed(&g->hot, pan, l->pan_n))
-        return 22;
-    refusal = look_up(&g->tables, pan, l->pan_n, f);
-    if (refusal)
-        return refusal;
-    return SLIP_ONE(125, is_listed(&g->hot, pan, l->pan_n), false) ? 22 : 0;
+    c->l.pan_at = SLIP(62, c->l.pan_at, 0);
+    return judge_card(t, g, c);
+}
+
+/* The numbers that a swipe answers. */
+struct answers {
+    uint32_t *serial, *expires, *days;
+};
+
+/* What a good card has left. Wrong references answer a card without an expiry 0 days (159), or
+ * write 0 behind the pointer (160). */
+static void answer_left(const struct left *left, const struct answers *a)
+{
+    *a->expires = SLIP(159, left->expires, true);
+    if (left->expires || WRONG == 159 || WRONG == 160)
+        *a->days = left->days;
+}
+
+/* A wrong reference changes a number though it refuses: the serial (161) or whether the card
+ * expires (162) at 22, or the days (163) at 24. */
+static uint32_t refuse(uint32_t refusal, const struct answers *a)
+{
+    if (WRONG == 161 && refusal == 22)
+        *a->serial = 0;
+    if (WRONG == 162 && refusal == 22)
+        *a->expires = 1;
+    if (WRONG == 163 && refusal == 24)
+        *a->days = 0;
+    return refusal;
 }
 
 OVER_TRACK uint32_t swipe(const struct track *t, const struct given *g,
                           uint8_t *scratch, size_t scratch_n,
-                          uint8_t *journal, size_t journal_n, uint32_t *serial)
+                          uint8_t *journal, size_t journal_n, const struct answers *a)
 {
     struct view v;
-    struct layout l;
-    struct found f;
-    uint8_t chars[MOST];
+    struct card c;
     if (scratch_n < SLIP_ONE(63, t->most, 75))
         return 1;
     uint32_t refusal = before_reading(journal, journal_n, g, &v);
     if (WRONG != 43 || !refusal)
         memset(scratch, 0, SLIP(64, t->most, 37));
     if (!refusal)
-        refusal = read_card(t, g, chars, &l, &f);
+        refusal = read_card(t, g, &c);
     if (refusal)
-        return refusal;
+        return refuse(refusal, a);
+    const uint8_t *pan = c.chars + c.l.pan_at;
     /* A wrong reference books the label of that table's first fitting record (99). */
-    f.at = SLIP(99, f.at, first_fit(table_of(&g->tables, &f), chars + l.pan_at, l.pan_n));
-    *serial = book(journal, &v, chars + l.pan_at, l.pan_n, label_of(&g->tables, &f), g->amount,
-                   g->clock);
+    c.range.at = SLIP(99, c.range.at, first_fit(table_of(&g->tables, &c.range), pan, c.l.pan_n));
+    *a->serial = book(journal, &v, pan, c.l.pan_n, label_of(&g->tables, &c.range), g->amount,
+                      g->clock);
+    answer_left(&c.left, a);
     return 0;
 }
 
@@ -1184,28 +1352,32 @@ uint32_t gw_swipe(const uint8_t *stream, size_t stream_n, uint64_t bits,
                   const uint8_t *site, size_t site_n,
                   const uint8_t *acquirer, size_t acquirer_n,
                   const uint64_t *hot, size_t hot_n, uint32_t hot_length,
-                  uint32_t amount, uint32_t clock,
+                  uint32_t amount, uint32_t year, uint32_t month, uint32_t day,
+                  uint32_t clock,
                   uint8_t *scratch, size_t scratch_n,
                   uint8_t *journal, size_t journal_n,
-                  uint32_t *serial)
+                  uint32_t *serial, uint32_t *expires, uint32_t *days)
 {
     struct given g = {{stream, stream_n, bits}, {site, site_n, acquirer, acquirer_n},
-                      {hot, hot_n, hot_length}, amount, clock};
-    return swipe(&track2, &g, scratch, scratch_n, journal, journal_n, serial);
+                      {hot, hot_n, hot_length}, amount, date_of(year, month, day, clock), clock};
+    struct answers a = {serial, expires, days};
+    return swipe(&track2, &g, scratch, scratch_n, journal, journal_n, &a);
 }
 
 uint32_t gw_swipe1(const uint8_t *stream, size_t stream_n, uint64_t bits,
                    const uint8_t *site, size_t site_n,
                    const uint8_t *acquirer, size_t acquirer_n,
                    const uint64_t *hot, size_t hot_n, uint32_t hot_length,
-                   uint32_t amount, uint32_t clock,
+                   uint32_t amount, uint32_t year, uint32_t month, uint32_t day,
+                   uint32_t clock,
                    uint8_t *scratch, size_t scratch_n,
                    uint8_t *journal, size_t journal_n,
-                   uint32_t *serial)
+                   uint32_t *serial, uint32_t *expires, uint32_t *days)
 {
     struct given g = {{stream, stream_n, bits}, {site, site_n, acquirer, acquirer_n},
-                      {hot, hot_n, hot_length}, amount, clock};
-    return swipe(&track1, &g, scratch, scratch_n, journal, journal_n, serial);
+                      {hot, hot_n, hot_length}, amount, date_of(year, month, day, clock), clock};
+    struct answers a = {serial, expires, days};
+    return swipe(&track1, &g, scratch, scratch_n, journal, journal_n, &a);
 }
 
 /* ---- The host's ledger -------------------------------------------------- */

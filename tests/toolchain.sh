@@ -65,7 +65,7 @@ write_examples() {
 compile_compare() {
     write_examples
     COMPARE=
-    for part in compare cases encode hots lent pans reached shapes tables; do
+    for part in compare cases dates encode hots lent pans reached shapes tables; do
         compile tests/$part.c $part.o
         COMPARE="$COMPARE $part.o"
     done

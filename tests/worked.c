@@ -1,8 +1,9 @@
 /*
  * The worked cases of document 01, known texts, cards of track 1 whose bits are
- * written out by hand, range tables whose records overlap, hot lists, and messages to
- * the host, with the answers. tests/run runs them against the library, and against the
- * reference too: what judges the library is itself held to the paper's own examples.
+ * written out by hand, range tables whose records overlap, hot lists, dates, and
+ * messages to the host, with the answers. tests/run runs them against the library, and
+ * against the reference too: what judges the library is itself held to the paper's own
+ * examples.
  */
 #include <inttypes.h>
 #include <stdbool.h>
@@ -271,8 +272,33 @@ static void journal(void)
     expect("at the last serial", gw_journal_book(slot, 32, pan, 16, 7, 250, 0, &serial), 19);
 }
 
-/* An empty hot list. */
-static const uint64_t none_blocked[1];
+enum { KEPT = 99 }; /* what stands behind a pointer before a call */
+
+/* What a swipe answers. */
+struct swiped {
+    uint32_t answer, serial, expires, days;
+};
+
+static struct swiped swiped(const struct track *t, const struct gw_swipe_inputs *in)
+{
+    struct swiped s = {KEPT, KEPT, KEPT, KEPT};
+    s.answer = (t == &track1 ? gw_swipe1_with : gw_swipe_with)(in, &s.serial, &s.expires, &s.days);
+    return s;
+}
+
+/* W13's payment on 1 December 2025 by a stripe: no table yet, and an empty hot list. */
+static struct gw_swipe_inputs paying(const struct stripe *s, uint8_t scratch[76],
+                                     uint8_t *journal, size_t journal_n)
+{
+    static const uint64_t none[1];
+    return (struct gw_swipe_inputs){
+        .stream = s->bytes, .stream_n = sizeof s->bytes, .bits = s->bits,
+        .site = w13, .site_n = 0, .acquirer = w13, .acquirer_n = 0,
+        .hot = none, .hot_n = 0, .hot_length = 16,
+        .amount = 250, .year = 2025, .month = 12, .day = 1, .clock = 0,
+        .scratch = scratch, .scratch_n = 76, .journal = journal, .journal_n = journal_n,
+    };
+}
 
 /* W13's payment by the fleet card, either way round; a scratch too short before it. */
 static void swipe1(bool turned)
@@ -280,22 +306,40 @@ static void swipe1(bool turned)
     static const uint8_t zeros[76];
     struct stripe s = stripe_of(fleet_card, turned);
     uint8_t slot[32] = {0}, acquirer[16] = {0}, scratch[76];
-    uint32_t serial = 0;
+    struct gw_swipe_inputs in = paying(&s, scratch, slot, 32);
     put_range(acquirer, &(struct range){40000000, 49999999, 7, 13, 19});
+    in.acquirer = acquirer;
+    in.acquirer_n = 16;
     memset(scratch, 0x5a, 76);
-    expect("a scratch of 75", gw_swipe1(s.bytes, sizeof s.bytes, s.bits, acquirer, 0, acquirer, 16,
-                                        none_blocked, 0, 16, 250, 0, scratch, 75, slot, 32,
-                                        &serial), 1);
-    expect("it stays", scratch[0] == 0x5a && scratch[74] == 0x5a && serial == 0, 1);
-    expect("a scratch of 76", gw_swipe1(s.bytes, sizeof s.bytes, s.bits, acquirer, 0, acquirer, 16,
-                                        none_blocked, 0, 16, 250, 0, scratch, 76, slot, 32,
-                                        &serial), 0);
+    in.scratch_n = 75;
+    struct swiped got = swiped(&track1, &in);
+    expect("a scratch of 75", got.answer, 1);
+    expect("it stays", scratch[0] == 0x5a && scratch[74] == 0x5a && got.serial == KEPT, 1);
+    in.scratch_n = 76;
+    got = swiped(&track1, &in);
+    expect("a scratch of 76", got.answer, 0);
     expect("it is zero", memcmp(scratch, zeros, 76) == 0, 1);
-    expect("the swipe's serial", serial, 1);
+    expect("the swipe's serial", got.serial, 1);
     expect("the swipe's record", memcmp(slot, w13, 32) == 0, 1);
 }
 
 /* ---- Range tables ------------------------------------------------------- */
+
+/* W1's card: its PAN, and its number. */
+#define W1 "4111111111111111"
+#define CARD UINT64_C(4111111111111111)
+
+/* A card on a track, by its PAN and its expiry, which is the track's mark for none. */
+static struct stripe card_of(const struct track *t, const char *pan, const char *expiry)
+{
+    struct stripe s = {{0}, 0};
+    const char *form = t == &track1 ? "%%B%s^DOE/JANE^%s101?" : ";%s=%s101?";
+    char card[64], mark[2] = {(char)t->mark};
+    snprintf(card, sizeof card, form, pan, *expiry ? expiry : mark);
+    put_track(t, s.bytes, card);
+    s.bits = t->width * (strlen(card) + 1);
+    return s;
+}
 
 /* Records by a letter. The first five fit W1's PAN, and the last three don't. */
 static const struct {
@@ -377,21 +421,18 @@ static struct tables tables_of(const struct choice *c)
     return t;
 }
 
-/* W1's card swiped, on track 2 and on track 1: both records have this label. */
-static void swipes_label(const struct tables *t, const uint8_t *label)
+/* W1's card swiped on a track: the record has this label. */
+static void swipes_label(const struct tables *tables, const uint8_t *label, const struct track *t)
 {
-    const uint8_t *site = t->bytes[0], *acquirer = t->bytes[1];
-    struct stripe fleet = stripe_of(fleet_card, false);
-    uint8_t stream[32] = {0}, scratch[76], slots[64] = {0};
-    uint32_t serial;
-    put_track(&track2, stream, ";4111111111111111=2512101?");
-    expect(t->written, gw_swipe(stream, 17, 135, site, t->n[0], acquirer, t->n[1], none_blocked, 0,
-                                16, 250, 0, scratch, 37, slots, 64, &serial), 0);
-    expect(t->written, gw_swipe1(fleet.bytes, sizeof fleet.bytes, fleet.bits, site, t->n[0],
-                                 acquirer, t->n[1], none_blocked, 0, 16, 250, 0, scratch, 76,
-                                 slots, 64, &serial), 0);
-    expect("the swipe's label", memcmp(slots + 12, label, 2) == 0, 1);
-    expect("the label by track 1", memcmp(slots + 44, label, 2) == 0, 1);
+    struct stripe s = card_of(t, W1, "2512");
+    uint8_t scratch[76], slot[32] = {0};
+    struct gw_swipe_inputs in = paying(&s, scratch, slot, 32);
+    in.site = tables->bytes[0];
+    in.site_n = tables->n[0];
+    in.acquirer = tables->bytes[1];
+    in.acquirer_n = tables->n[1];
+    expect(tables->written, swiped(t, &in).answer, 0);
+    expect("the swipe's label", memcmp(slot + 12, label, 2) == 0, 1);
 }
 
 static void chooses(const struct choice *c)
@@ -402,7 +443,8 @@ static void chooses(const struct choice *c)
                                     bytes("4111111111111111"), 16, &table, &at), 0);
     expect(t.written, table, c->table);
     expect(t.written, at, 16 * c->record);
-    swipes_label(&t, t.bytes[c->table] + 16 * c->record + 8);
+    swipes_label(&t, t.bytes[c->table] + 16 * c->record + 8, &track2);
+    swipes_label(&t, t.bytes[c->table] + 16 * c->record + 8, &track1);
 }
 
 /* Each of the choices; and where none fits, nothing is found. */
@@ -420,15 +462,9 @@ static void range_tables(void)
 
 /* ---- Hot lists ---------------------------------------------------------- */
 
-/* W1's card: its PAN, and its number. */
-#define W1 "4111111111111111"
-#define CARD UINT64_C(4111111111111111)
-
 /* The least number too large for 16 digits, and for 19. */
 #define SIXTEEN UINT64_C(10000000000000000)
 #define NINETEEN UINT64_C(10000000000000000000)
-
-enum { KEPT = 99 }; /* what stands behind a pointer before a call */
 
 /* A card asked for in a list: the answer, and yes (1) or no (0), or what was there. */
 struct question {
@@ -542,23 +578,25 @@ static const struct attempt attempts[] = {
     {"15 before 22", W1, "b", 0, {CARD}, 1, 16, 250, 15},
 };
 
-/* On either track a refusal leaves the journal and the serial, and zeros the scratch. */
+/* On either track a refusal leaves the journal and the numbers, and zeros the scratch. */
 static void attempt(const struct attempt *a, const struct track *t)
 {
     static const uint8_t zeros[76];
-    bool one = t == &track1;
-    uint8_t stream[48] = {0}, table[16], scratch[76], slot[32] = {0};
-    uint32_t serial = KEPT;
-    char card[64];
-    snprintf(card, sizeof card, one ? "%%B%s^DOE/JANE^2512101?" : ";%s=2512101?", a->pan);
-    put_track(t, stream, card);
-    size_t bits = t->width * (strlen(card) + 1), table_n = put_table(table, a->table) - a->cut;
+    struct stripe s = card_of(t, a->pan, "2512");
+    uint8_t table[16], scratch[76], slot[32] = {0};
+    struct gw_swipe_inputs in = paying(&s, scratch, slot, 32);
+    in.acquirer = table;
+    in.acquirer_n = put_table(table, a->table) - a->cut;
+    in.hot = a->list;
+    in.hot_n = a->n;
+    in.hot_length = a->length;
+    in.amount = a->amount;
     memset(scratch, 0x5a, sizeof scratch);
-    uint32_t answer = (one ? gw_swipe1 : gw_swipe)(
-        stream, sizeof stream, bits, table, 0, table, table_n, a->list, a->n, a->length,
-        a->amount, 0, scratch, t->most, slot, sizeof slot, &serial);
-    expect(a->what, answer, a->answer);
-    expect("its serial", serial, a->answer ? KEPT : 1);
+    struct swiped got = swiped(t, &in);
+    expect(a->what, got.answer, a->answer);
+    expect("its serial", got.serial, a->answer ? KEPT : 1);
+    expect("its expiry", got.expires, a->answer ? KEPT : 1);
+    expect("its days left", got.days, a->answer ? KEPT : 30);
     expect("its journal as it was", memcmp(slot, zeros, sizeof slot) == 0, a->answer != 0);
     expect("its scratch zero", memcmp(scratch, zeros, t->most) == 0, 1);
 }
@@ -575,6 +613,123 @@ static void hot_lists(void)
     for (size_t i = 0; i < sizeof attempts / sizeof attempts[0]; i++) {
         attempt(&attempts[i], &track2);
         attempt(&attempts[i], &track1);
+    }
+}
+
+/* ---- Dates -------------------------------------------------------------- */
+
+/* A swipe of W1's card with an expiry, or with none, on a date: its answer, whether the card
+ * expires, and the days left. Letters name what else is wrong with it:
+ *   h the hot list doesn't rise     a the amount is 0            s the serials are used up
+ *   f the journal is full           b there are no bits          c the check digit is wrong
+ *   r no range fits                 l the card is listed */
+struct dated {
+    const char *what, *expiry;
+    uint32_t year, month, day;
+    const char *faults;
+    uint32_t answer, expires, days;
+};
+
+#define REFUSED(number) (number), KEPT, KEPT
+
+static const struct dated dated[] = {
+    {"the last day", "2512", 2025, 12, 31, "", 0, 1, 0},
+    {"the day before it", "2512", 2025, 12, 30, "", 0, 1, 1},
+    {"the first of the month", "2512", 2025, 12, 1, "", 0, 1, 30},
+    {"the day after", "2512", 2026, 1, 1, "", REFUSED(24)},
+    {"the last of the month after", "2512", 2026, 1, 31, "", REFUSED(24)},
+    {"a year after", "2512", 2026, 12, 31, "", REFUSED(24)},
+    {"an earlier month of the next year", "2512", 2026, 3, 1, "", REFUSED(24)},
+    {"a later month of the year before", "2503", 2024, 12, 31, "", 0, 1, 90},
+    {"a year before", "2512", 2024, 12, 31, "", 0, 1, 365},
+    {"a year with a leap day", "2412", 2023, 12, 31, "", 0, 1, 366},
+    {"the last of April", "2504", 2025, 4, 30, "", 0, 1, 0},
+    {"the first of May after it", "2504", 2025, 5, 1, "", REFUSED(24)},
+    {"February of a leap year", "2402", 2024, 2, 28, "", 0, 1, 1},
+    {"its 29th", "2402", 2024, 2, 29, "", 0, 1, 0},
+    {"the day after that", "2402", 2024, 3, 1, "", REFUSED(24)},
+    {"February of another year", "2302", 2023, 2, 28, "", 0, 1, 0},
+    {"the day after it", "2302", 2023, 3, 1, "", REFUSED(24)},
+    {"29 February 2000", "0002", 2000, 2, 29, "", 0, 1, 0},
+    {"1 March 2000", "0002", 2000, 3, 1, "", REFUSED(24)},
+    {"January 2000 to its end", "0001", 2000, 1, 1, "", 0, 1, 30},
+    {"00 isn't 2100", "0001", 2099, 12, 31, "", REFUSED(24)},
+    {"2000 to 2099", "9912", 2000, 1, 1, "", 0, 1, 36524},
+    {"their last day", "9912", 2099, 12, 31, "", 0, 1, 0},
+    {"their last February", "9902", 2099, 2, 28, "", 0, 1, 0},
+    {"no expiry", "", 2025, 12, 31, "", 0, 0, KEPT},
+    {"none in 2000", "", 2000, 1, 1, "", 0, 0, KEPT},
+    {"none in 2099", "", 2099, 12, 31, "", 0, 0, KEPT},
+    {"1999", "", 1999, 12, 31, "", REFUSED(23)},
+    {"2100", "", 2100, 1, 1, "", REFUSED(23)},
+    {"month 0", "", 2025, 0, 1, "", REFUSED(23)},
+    {"month 13", "", 2025, 13, 1, "", REFUSED(23)},
+    {"day 0", "", 2025, 1, 0, "", REFUSED(23)},
+    {"day 32", "", 2025, 1, 32, "", REFUSED(23)},
+    {"31 April", "", 2025, 4, 31, "", REFUSED(23)},
+    {"31 November", "", 2025, 11, 31, "", REFUSED(23)},
+    {"29 February 2023", "", 2023, 2, 29, "", REFUSED(23)},
+    {"30 February 2024", "", 2024, 2, 30, "", REFUSED(23)},
+    {"no date yet", "", 0, 0, 0, "", REFUSED(23)},
+    {"a year and 2^16", "", 65536 + 2025, 12, 31, "", REFUSED(23)},
+    {"a month and 2^8", "", 2025, 256 + 12, 31, "", REFUSED(23)},
+    {"a day and 2^8", "", 2025, 12, 256 + 31, "", REFUSED(23)},
+    {"the largest year", "", UINT32_MAX, 12, 31, "", REFUSED(23)},
+    {"the largest month", "", 2025, UINT32_MAX, 31, "", REFUSED(23)},
+    {"the largest day", "", 2025, 12, UINT32_MAX, "", REFUSED(23)},
+    {"21 before 23", "2512", 2025, 2, 29, "h", REFUSED(21)},
+    {"17 before 23", "2512", 2025, 2, 29, "a", REFUSED(17)},
+    {"23 before 19", "2512", 2025, 2, 29, "s", REFUSED(23)},
+    {"23 before 18", "2512", 2025, 2, 29, "f", REFUSED(23)},
+    {"23 before 8", "2512", 2025, 2, 29, "b", REFUSED(23)},
+    {"19 alone", "2512", 2025, 2, 28, "s", REFUSED(19)},
+    {"18 alone", "2512", 2025, 2, 28, "f", REFUSED(18)},
+    {"8 before 24", "2512", 2026, 1, 1, "b", REFUSED(8)},
+    {"4 before 24", "2512", 2026, 1, 1, "c", REFUSED(4)},
+    {"15 before 24", "2512", 2026, 1, 1, "r", REFUSED(15)},
+    {"24 before 22", "2512", 2026, 1, 1, "l", REFUSED(24)},
+    {"22 alone", "2512", 2025, 12, 31, "l", REFUSED(22)},
+    {"22 without an expiry", "", 2025, 12, 31, "l", REFUSED(22)},
+};
+
+/* What is wrong with the inputs beside the date and the stripe. */
+static void put_faults(struct gw_swipe_inputs *in, const char *faults)
+{
+    static const uint64_t list[2] = {CARD, CARD};
+    in->hot = list;
+    in->hot_n = strchr(faults, 'h') ? 2 : strchr(faults, 'l') ? 1 : 0;
+    in->amount = strchr(faults, 'a') ? 0 : 250;
+    in->bits = strchr(faults, 'b') ? 0 : in->bits;
+    in->acquirer_n = strchr(faults, 'r') ? 0 : in->acquirer_n;
+    if (strpbrk(faults, "sf"))
+        memcpy(in->journal, w13, 32);
+    if (strchr(faults, 's'))
+        memset(in->journal, 0xff, 4);
+}
+
+static void swipes_on(const struct dated *d, const struct track *t)
+{
+    struct stripe s = card_of(t, strchr(d->faults, 'c') ? "4111111111111112" : W1, d->expiry);
+    uint8_t table[16], scratch[76], slot[32] = {0};
+    struct gw_swipe_inputs in = paying(&s, scratch, slot, 32);
+    in.acquirer = table;
+    in.acquirer_n = put_table(table, "w");
+    in.year = d->year;
+    in.month = d->month;
+    in.day = d->day;
+    put_faults(&in, d->faults);
+    struct swiped got = swiped(t, &in);
+    expect(d->what, got.answer, d->answer);
+    expect("its serial", got.serial, d->answer ? KEPT : 1);
+    expect("its expiry", got.expires, d->expires);
+    expect("its days left", got.days, d->days);
+}
+
+static void dates(void)
+{
+    for (size_t i = 0; i < sizeof dated / sizeof dated[0]; i++) {
+        swipes_on(&dated[i], &track2);
+        swipes_on(&dated[i], &track1);
     }
 }
 
@@ -690,10 +845,11 @@ int main(void)
     swipe1(true);
     range_tables();
     hot_lists();
+    dates();
     walk();
     ledger();
     released_by_answers();
-    printf("worked cases, cards of track 1, range tables, hot lists, messages to the host: %s\n",
-           wrong ? "WRONG" : "as written");
+    printf("worked cases, cards of track 1, range tables, hot lists, dates, messages to the host: "
+           "%s\n", wrong ? "WRONG" : "as written");
     return wrong ? 1 : 0;
 }

@@ -1,7 +1,7 @@
-"""Tests of the commands as people expect them: answers that arrive, lines as they are typed, help, tables, the hot list, dumps, box and host."""
-import collections, functools, operator, os, random, struct, subprocess, time
+"""Tests of the commands as people expect them: answers that arrive, lines as they are typed, help, dates, tables, the hot list, dumps, box and host."""
+import collections, datetime, functools, operator, os, random, struct, subprocess, time
 
-from drive import CARD, EVERY, OTHER, SLOT, SLOTS, TRACK1, TRACK2, Session, lines, program, records, run, same, traced
+from drive import CARD, DATE, EVERY, OTHER, SLOT, SLOTS, TRACK1, TRACK2, Session, lines, program, records, run, same, traced
 
 
 def journal_at(path, slots=SLOTS):
@@ -97,12 +97,12 @@ def every_example(folder):
     """Each line of `help` begins with a command, whose example is understood and is answered as the line says."""
     known = lines("help\n")
     same(len(known) >= 30, True, "how many commands")
-    before = f"slots 4\nbook {CARD} 7 250 0\nsite {EVERY}\nhot 16 4012888888881881\n"
+    before = f"slots 4\nbook {CARD} 7 250 0\nsite {EVERY}\nhot 16 4012888888881881\n{DATE}\n"
     for line in known:
         usage, rest = line.split(" -> ", 1)
         answer, example = rest.rsplit(", e.g. ", 1)
         same(example.split()[0], usage.split()[0], "the example's command")
-        found = lines(before + example + "\n")[4:]
+        found = lines(before + example + "\n")[5:]
         same(found[0].startswith(("not understood", "refused")), False, f"{example}: {found[0]}")
         first = answer.split()[0]
         if first.islower() and first not in ("as", "these", "damaged"):
@@ -114,22 +114,113 @@ def nearest(folder):
     for word, wanted in (
         ("relase", "release"), ("bok", "book"), ("luhnmake", "luhn-make"), ("swype", "swipe"), ("survy", "survey"), ("Tell", "tell"),
         ("swype1", "swipe1"), ("trac1", "track1"), ("Layout1", "layout1"), ("leger", "ledger"), ("taken", "take"),
-        ("hto", "hot"), ("Hot", "hot"), ("lsted", "listed"),
+        ("hto", "hot"), ("Hot", "hot"), ("lsted", "listed"), ("dat", "date"), ("Date", "date"),
     ):
         same(lines(f"{word} 1\n"), [f"not understood: no such command (nearest: {wanted}; help lists all)"])
     same(lines("x" * 100000 + "\n")[0].startswith("not understood: no such command (nearest: "), True, "a long word")
 
 
-# ---- track 1
+# ---- stripes
 
 
-def stream(text, reverse):
-    """A text with its sentinels as bits of track 1, its LRC behind it, forward or reversed: its bytes, and how many bits."""
-    numbers = [ord(c) - 32 for c in text]
+def stream(text, reverse, width=7):
+    """A text with its sentinels as bits of track 1, or of track 2 where a character has 5, its LRC behind it, forward or reversed: its bytes, and how
+    many bits."""
+    numbers = [ord(c) - {7: 32, 5: 48}[width] for c in text]
     numbers.append(functools.reduce(operator.xor, numbers))
-    data = [f"{n:06b}"[::-1] for n in numbers]
+    data = [f"{n:0{width - 1}b}"[::-1] for n in numbers]
     bits = "".join(d + str((d.count("1") + 1) % 2) for d in data)[:: -1 if reverse else 1]
     return f"{int(bits[::-1], 2).to_bytes((len(bits) + 7) // 8, 'little').hex().upper()} {len(bits)}"
+
+
+# ---- dates
+
+FIRST, LAST, ONE_DAY = datetime.date(2000, 1, 1), datetime.date(2099, 12, 31), datetime.timedelta(days=1)
+NO_DATE = "refused 23: date outside 2000 to 2099, or no real day"
+EXPIRED = "refused 24: card expired"
+
+
+def date(day):
+    """The command that sets a date, which is its answer too."""
+    return f"date {day.year} {day.month} {day.day}"
+
+
+def last_day(expiry):
+    """The last day on which a card is good, of an expiry YYMM: the day before the next month begins."""
+    year, month = 2000 + int(expiry[:2]), int(expiry[2:])
+    return datetime.date(year + month // 12, month % 12 + 1, 1) - ONE_DAY
+
+
+def swiped(serial, expiry, today):
+    """What a swipe answers that only the expiry could still refuse, and that would be booked with this serial."""
+    if not expiry:
+        return f"booked {serial} no expiry"
+    days = (last_day(expiry) - today).days
+    return f"booked {serial} days {days}" if days >= 0 else EXPIRED
+
+
+def any_day(chance):
+    return FIRST + chance.randrange(36525) * ONE_DAY
+
+
+def day_around(chance, expiry):
+    """A day of the century: one beside the last on which a card is good, or any."""
+    beside = last_day(expiry) + chance.randint(-2, 2) * ONE_DAY if expiry else LAST
+    return min(max(chance.choice([beside, any_day(chance)]), FIRST), LAST)
+
+
+def is_real(year, month, day):
+    try:
+        return FIRST <= datetime.date(year, month, day) <= LAST
+    except ValueError:
+        return False
+
+
+def every_day(folder):
+    """Every day from 2000 to 2099 is taken, and none of the years, months and days beside them."""
+    asked = [(y, m, d) for y in range(1999, 2102) for m in range(14) for d in range(33)]
+    found = lines("".join(f"date {y} {m} {d}\n" for y, m, d in asked))
+    for (y, m, d), answer in zip(asked, found):
+        same(answer, f"date {y} {m} {d}" if is_real(y, m, d) else NO_DATE, f"date {y} {m} {d}")
+    same((len(found), sum(answer != NO_DATE for answer in found)), (len(asked), 36525), "how many answers, and days taken")
+
+
+def every_expiry(folder):
+    """Each month of the century as an expiry, on either track: the card is good through its last day and has the days left that the calendar counts,
+    whatever the clock says. A card without an expiry has no number of days."""
+    chance, script, wanted = random.Random(7), [f"site {EVERY}"], ["site 1 records"]
+    for expiry in [f"{year:02}{month:02}" for year in range(100) for month in range(1, 13)] + [""]:
+        last = last_day(expiry) if expiry else LAST
+        for today in sorted({FIRST, LAST, last - ONE_DAY, last, min(last + ONE_DAY, LAST), any_day(chance)}):
+            swipes = stream(f";{CARD}={expiry or '='}101?", False, 5), stream(f"%B{CARD}^DOE/JANE^{expiry or '^'}101?", False)
+            clocks = chance.choices([0, 1700000000, 4294967295], k=2)
+            script += ["slots 2", date(today), f"swipe {swipes[0]} 1 {clocks[0]}", f"swipe1 {swipes[1]} 1 {clocks[1]}"]
+            wanted += ["slots 2", date(today), swiped(1, expiry, today), swiped(2, expiry, today)]
+    found = lines("\n".join(script) + "\n")
+    for line, f, w in zip(script, found, wanted):
+        same(f, w, line)
+    same(len(found), len(wanted), "how many answers")
+
+
+def date_in_memory(folder):
+    """The date stands beside any journal, one that is only read too, is gone at the end, and a card that has expired changes no file."""
+    path = journal_at(folder / "journal", 4)
+    swipes = f"swipe {TRACK2} 1 0\nswipe1 {TRACK1} 1 0\n"
+    same(lines(f"site {EVERY}\n{DATE}\n{swipes}", path)[1:], [DATE, "booked 1 days 30", "booked 2 days 30"])
+    data = path.read_bytes()
+    same(lines(f"site {EVERY}\n{swipes}", path)[1:], [NO_DATE] * 2, "the next run")
+    same(lines(f"site {EVERY}\ndate 2026 1 1\n{swipes}", path)[1:], ["date 2026 1 1"] + [EXPIRED] * 2)
+    same(lines(f"{DATE}\ndate 2025 13 1\n", "--read-only", path), [DATE, NO_DATE])
+    same(path.read_bytes(), data, "the file")
+
+
+def date_of_today(folder):
+    """The line for today, made as the manual says, is taken."""
+    line = subprocess.run(["date", "+date %Y %m %d"], stdout=subprocess.PIPE, check=True).stdout.decode()
+    same(lines(line), [date(datetime.date(*map(int, line.split()[1:])))])
+
+
+# ---- track 1
 
 
 def passes(pan):
@@ -147,20 +238,25 @@ def fleet_card(chance, turn):
 
 
 def any_fleet_card(folder):
-    """Cards on track 1, with PANs and names of every length, are read either way round, divided, and booked or refused for their check digit."""
+    """Cards on track 1, with PANs and names of every length, are read either way round, divided, and booked or refused for their check digit or their
+    expiry."""
     chance, script, wanted, booked = random.Random(1), [f"site {EVERY}"], ["site 1 records"], 0
+    kinds, met = ("days", "no expiry", "expired", "check digits"), set()
     told = lambda text: text.encode().hex().upper() or "-"
     for turn in range(400):
         pan, name, expiry, service, rest = fleet_card(chance, turn)
         text = f"B{pan}^{name}^{expiry or '^'}{service or '^'}{rest}"
-        script.append(f"layout1 {told(text)}")
-        wanted.append(f"pan {pan} expiry {expiry or '-'} service {service or '-'} name {told(name)} rest {told(rest)}")
+        today = day_around(chance, expiry)
+        script += [f"layout1 {told(text)}", date(today)]
+        wanted += [f"pan {pan} expiry {expiry or '-'} service {service or '-'} name {told(name)} rest {told(rest)}", date(today)]
         for reverse, way in ((False, "forward"), (True, "reversed")):
             bits = stream(f"%{text}?", reverse)
-            booked += passes(pan)
+            answer = swiped(booked + 1, expiry, today) if passes(pan) else "refused 4: check digits wrong"
+            booked += answer.startswith("booked")
+            met |= {kind for kind in kinds if kind in answer}
             script += [f"track1 {bits}", f"swipe1 {bits} 1 0"]
-            wanted += [f"read {len(text)} {way} {told(text)}", f"booked {booked}" if passes(pan) else "refused 4: check digits wrong"]
-    same(lines("\n".join(script) + "\n"), wanted)
+            wanted += [f"read {len(text)} {way} {told(text)}", answer]
+    same((lines("\n".join(script) + "\n"), met), (wanted, set(kinds)))
 
 
 # ---- range tables
@@ -190,6 +286,7 @@ def any_tables(folder):
     and swipes of both tracks book its label."""
     chance, session, number, serial, none = random.Random(4), Session(), int(CARD[:8]), 0, 0
     swipes = f"swipe {TRACK2} 1 0", f"swipe1 {TRACK1} 1 0"
+    same(session.ask(DATE), DATE)
     for turn in range(400):
         tables = {"site": overlapping(chance, number), "acquirer": overlapping(chance, number)}
         for name, table in tables.items():
@@ -203,7 +300,7 @@ def any_tables(folder):
         same(session.ask(f"range {CARD}"), f"{name} {k} {in_bytes(tables[name][k : k + 1])}", f"the record of {tables}")
         for line in swipes:
             serial += 1
-            same(session.ask(line), f"booked {serial}")
+            same(session.ask(line), f"booked {serial} days 30")
             same(session.ask(f"show {serial}").split(" label ")[1], f"{tables[name][k][2]} card 411111******1111", f"the label by {tables}")
     same((session.end(), serial > 0, none > 0), ([], True, True), "what was met")
 
@@ -239,7 +336,7 @@ def any_hot_list(folder):
     """Lists of every PAN length: a card is listed exactly where it has that length and its number is in the list, swipes of both tracks refuse
     CARD exactly then, and a line that is refused or isn't understood leaves the list that was there."""
     chance, session, serial, met = random.Random(8), Session(), 0, collections.Counter()
-    same(session.ask(f"site {EVERY}"), "site 1 records")
+    same([session.ask(f"site {EVERY}"), session.ask(DATE)], ["site 1 records", DATE])
     for turn in range(350):
         length = 13 + turn % 7
         numbers = hot_list(chance, length)
@@ -255,7 +352,7 @@ def any_hot_list(folder):
         for line in (f"swipe {TRACK2} 1 0", f"swipe1 {TRACK1} 1 0"):
             met[f"blocked {blocked}"] += 1
             serial += not blocked
-            same(session.ask(line), "refused 22: card on the hot list" if blocked else f"booked {serial}", f"{line} after {hot(length, numbers)}")
+            same(session.ask(line), "refused 22: card on the hot list" if blocked else f"booked {serial} days 30", f"{line} after {hot(length, numbers)}")
         same(session.ask("tell").split()[:3], ["held", str(serial), str(serial)], "what is held")
     same((session.end(), sorted(met)), ([], ["blocked False", "blocked True", "listed False", "listed True"]), "what was met")
 
@@ -293,12 +390,12 @@ def hot_list_in_file(folder):
 def hot_list_in_memory(folder):
     """The hot list stands beside any journal, one that is only read too, is gone at the end, and a card that it blocks changes no file."""
     path = journal_at(folder / "journal", 4)
-    same(lines(f"site {EVERY}\nswipe {TRACK2} 250 0\n", path), ["site 1 records", "booked 1"])
+    same(lines(f"site {EVERY}\n{DATE}\nswipe {TRACK2} 250 0\n", path)[2:], ["booked 1 days 30"])
     data, blocked = path.read_bytes(), "refused 22: card on the hot list"
     for words in ((path,), ("--read-only", path)):
         same(lines(f"hot 16 {CARD}\nlisted {CARD}\n", *words), ["hot 1 numbers", "yes"])
         same(lines(f"listed {CARD}\n", *words), ["no"], "the next run")
-    same(lines(f"site {EVERY}\nhot 16 {CARD}\nswipe {TRACK2} 1 0\nswipe1 {TRACK1} 1 0\n", path)[2:], [blocked] * 2)
+    same(lines(f"site {EVERY}\n{DATE}\nhot 16 {CARD}\nswipe {TRACK2} 1 0\nswipe1 {TRACK1} 1 0\n", path)[3:], [blocked] * 2)
     same(path.read_bytes(), data, "the file")
 
 
@@ -439,6 +536,6 @@ def ledger_in_memory(folder):
     same(path.read_bytes(), data, "the file")
 
 
-TESTS = [few_writes, each_in_time, full_output, closed_pipe, long_unheard, crlf, groups, every_example, nearest, any_fleet_card,
-         any_tables, any_hot_list, full_hot_list, many_hot_lists, hot_list_in_file, hot_list_in_memory, pasted_back, decoded,
-         wrong_lengths, any_course, ledger_in_memory]
+TESTS = [few_writes, each_in_time, full_output, closed_pipe, long_unheard, crlf, groups, every_example, nearest, every_day, every_expiry,
+         date_in_memory, date_of_today, any_fleet_card, any_tables, any_hot_list, full_hot_list, many_hot_lists, hot_list_in_file,
+         hot_list_in_memory, pasted_back, decoded, wrong_lengths, any_course, ledger_in_memory]

@@ -12,6 +12,8 @@ TRACK2 = "8B841042082184104208A1891A4480E123 135"
 TRACK1 = "4531351A8D46A3D168341A8D46A3D1A88FFC2A3D556177C927AD44A55148F48300 259"
 # a table whose one range fits every PAN, label 7
 EVERY = "00000000FFFFFFFF07000D1300000000"
+# a day on which CARD has 30 days left: the command, and its answer too
+DATE = "date 2025 12 1"
 
 
 class Skipped(Exception):

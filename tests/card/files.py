@@ -1,7 +1,7 @@
 """The program `card` on files: made, opened, locked, changed, cut and full."""
 import os, pathlib, pty, re, select, signal, subprocess, time
 
-from drive import CARD, EVERY, OTHER, SLOT, SLOTS, TRACK1, TRACK2, Session, Skipped, begin, both, lines, made, program, records, root, same, traced
+from drive import CARD, DATE, EVERY, OTHER, SLOT, SLOTS, TRACK1, TRACK2, Session, Skipped, begin, both, lines, made, program, records, root, same, traced
 
 
 def kept(folder):
@@ -43,15 +43,15 @@ def round_the_ring(folder):
 def swiped(folder):
     """Swipes of both tracks and bookings by turns, over several runs: the file holds what was answered, and a refused swipe changes nothing. A
     card's record is the same from either track, but for its serial."""
-    path, site = made(folder / "journal", 4), f"site {EVERY}\n"
-    same(lines(site + f"swipe1 {TRACK1} 250 9\nswipe {TRACK2} 250 9\n", path)[1:], ["booked 1", "booked 2"])
+    path, lent = made(folder / "journal", 4), f"site {EVERY}\n{DATE}\n"
+    same(lines(lent + f"swipe1 {TRACK1} 250 9\nswipe {TRACK2} 250 9\n", path)[2:], ["booked 1 days 30", "booked 2 days 30"])
     data = path.read_bytes()
     same(data[4:SLOT], data[SLOT + 4 : 2 * SLOT], "what the records hold")
     none = "refused 8: no start sentinel"
-    same(lines(site + f"swipe1 {TRACK2} 1 0\nswipe {TRACK1} 1 0\nswipe1 {TRACK1} 0 0\n", path)[1:], [none, none, "refused 17: amount 0"])
+    same(lines(lent + f"swipe1 {TRACK2} 1 0\nswipe {TRACK1} 1 0\nswipe1 {TRACK1} 0 0\n", path)[2:], [none, none, "refused 17: amount 0"])
     same(path.read_bytes(), data, "the file after refusals")
-    script = site + f"book {CARD} 7 300 0\nswipe1 {TRACK1} 350 0\nswipe1 {TRACK1} 1 0\nrelease 1\nswipe1 {TRACK1} 400 0\n"
-    same(lines(script, path)[1:], ["booked 3", "booked 4", "refused 18: journal full", "released 1 250", "booked 5"])
+    script = lent + f"book {CARD} 7 300 0\nswipe1 {TRACK1} 350 0\nswipe1 {TRACK1} 1 0\nrelease 1\nswipe1 {TRACK1} 400 0\n"
+    same(lines(script, path)[2:], ["booked 3", "booked 4 days 30", "refused 18: journal full", "released 1 250", "booked 5 days 30"])
     same(records(path, 4), {2: (1, 250), 3: (1, 300), 4: (1, 350), 5: (1, 400)})
     begin(lines("held\n", path), [f"{s} {a} 411111******1111" for s, a in ((2, 250), (3, 300), (4, 350), (5, 400))] + ["done 4"])
 
@@ -89,8 +89,8 @@ def last_serial(folder):
     record = (4294967295).to_bytes(4, "little") + bytes(4) + (1).to_bytes(4, "little") + bytes(2) + bytes([16, 1]) + b"4111111111" + bytes(6)
     path.write_bytes(record)
     used_up = "refused 19: serials used up"
-    begin(lines(f"book {CARD} 7 1 0\nswipe - 0 1 0\nswipe1 - 0 1 0\nheld\nrelease 4294967295\ntell\nbook {CARD} 7 1 0\n", path),
-          [used_up, used_up, used_up, "4294967295 1 411111******1111", "done 1", "released 1 1", "held 0 0 oldest 0 newest 4294967295", used_up])
+    begin(lines(f"{DATE}\nbook {CARD} 7 1 0\nswipe - 0 1 0\nswipe1 - 0 1 0\nheld\nrelease 4294967295\ntell\nbook {CARD} 7 1 0\n", path),
+          [DATE, used_up, used_up, used_up, "4294967295 1 411111******1111", "done 1", "released 1 1", "held 0 0 oldest 0 newest 4294967295", used_up])
 
 
 def no_file(folder):
@@ -447,7 +447,7 @@ def in_order(folder):
     """What was read is synced before the first answer; changes are written in the order of serials, no more than a sector at a time, each
     synced before its answer."""
     path, log = made(folder / "journal"), folder / "log"
-    script = f"site {EVERY}\ntell\n" + (f"book {CARD} 7 1 0\n" * 2 + f"swipe {TRACK2} 1 0\nswipe1 {TRACK1} 1 0\n") * 10 + "release 40\n"
+    script = f"site {EVERY}\n{DATE}\ntell\n" + (f"book {CARD} 7 1 0\n" * 2 + f"swipe {TRACK2} 1 0\nswipe1 {TRACK1} 1 0\n") * 10 + "release 40\n"
     subprocess.run(traced("-o", str(log), "-e", "trace=pwrite64,fsync,write") + [str(path)], input=script.encode(), stdout=subprocess.PIPE, check=True)
     change, says = ["pwrite64", "fsync"], 'write(1, "'
     same(calls(log), change + [says + "held"] + (change + [says + "booked"]) * 40 + change * 3 + [says + "released"])

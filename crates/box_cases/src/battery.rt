@@ -1,30 +1,68 @@
-// The battery swap: forty payments in a journal of 16 slots. In the middle the clock starts at the epoch again; releases arrive late and twice;
-// the journal is full for a while. Nothing is lost.
+// The battery swap: forty payments in a journal of 16 slots. In the middle the clock starts at the epoch again, while the host's date goes on; releases
+// arrive late and twice; the journal is full for a while. Nothing is lost.
+use dates::Date;
 use held::Told;
 use plays::Totals;
 use replay::Replayed;
+use samples::EVERY;
 use samples::NONE;
+use samples::W11;
 
-// The spring, a byte a call: `p` a payment, `?` a record of no known kind, any other a release up to its number less that of `@`: D is 4.
-const SPRING: [u8; 50] = *b"ppppppppppppDppppppppppJJppppppIZppppppppppppppa~?";
+// The spring, a byte a call: `p` a payment by a booking, `s` one by a swipe, `?` a record of no known kind, any other a release up to its number less
+// that of `@`: D is 4.
+const SPRING: [u8; 50] = *b"pspspspspspsDpspspspspsJJpspspsIZpspspspspspspsa~?";
 
 // ---- the script
 
 // What the clock says at call n, two days after the one before; the battery is changed before the 23rd, unless it is good.
 fn clock_at(n: u8, good: bool) -> u32 {
     if good {
-        return 1772236800 + 172800 * (n as u32);
+        return 1740787200 + 172800 * (n as u32);
     }
     if n < 22 {
-        return 1772236800 + 172800 * (n as u32);
+        return 1740787200 + 172800 * (n as u32);
     }
     172800 * ((n - 22) as u32)
 }
 
+fn day_of(month: u32, day: u32) -> Date {
+    Date {
+        year: 2025,
+        month,
+        day,
+    }
+}
+
+// The host's date at call n, two days after the one before, whatever the clock says: from 1 March to 7 June.
+fn date_at(n: u8) -> Date {
+    let passed = 2 * (n as u32);
+    if passed < 31 {
+        return day_of(3, passed + 1);
+    }
+    if passed < 61 {
+        return day_of(4, passed - 30);
+    }
+    if passed < 92 {
+        return day_of(5, passed - 60);
+    }
+    day_of(6, passed - 91)
+}
+
+fn swipe(script: &mut [u8; 6400], n: u8, amount: u32, clock: u32) {
+    let w11 = W11;
+    call_records::swipe2(script, n, amount, date_at(n), clock, 135, &w11);
+}
+
 // Call n of the spring. No two payments have the same amount, so that one for another would show.
 fn call(script: &mut [u8; 6400], n: u8, b: u8, good: bool) {
+    let amount = 100 + 10 * (n as u32);
+    let clock = clock_at(n, good);
     if b == b'p' {
-        call_records::book(script, n, 100 + 10 * (n as u32), clock_at(n, good));
+        call_records::book(script, n, amount, clock);
+        return;
+    }
+    if b == b's' {
+        swipe(script, n, amount, clock);
         return;
     }
     if b < 64 {
@@ -107,12 +145,13 @@ pub fn played(out: &mut [u8; 4096], script: &[u8], site: &[u8], journal: &mut [u
 
 // The first n calls, played on an all-zero journal.
 fn after(out: &mut [u8; 4096], words: &[u8], script: &[u8], n: u8) {
+    let every = EVERY;
     let mut journal = [0u8; 512];
     say::words(out, words);
     played(
         out,
         text::piece(script, 0, 128 * (n as usize)),
-        b"",
+        &every,
         &mut journal,
     );
 }

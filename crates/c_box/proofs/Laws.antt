@@ -12,7 +12,7 @@ use Rattle.swipe.proofs.Laws as swipe
 use Rattle.ledger.proofs.Laws.{take-one}
 use Rattle.hands.proofs.Laws.{hands-one, hands-on-one, hands-on-bytes}
 use Rattle.c_box.specs.Calls.{JournalBooks, JournalReleases, JournalShows, JournalTells, JournalSurveys}
-use Rattle.c_box.specs.Calls.{JournalWalks, WalkStarts, WalkSteps, Swipes, LedgerTakes}
+use Rattle.c_box.specs.Calls.{JournalWalks, WalkStarts, WalkSteps, SwipeNumbers, Swipes, LedgerTakes}
 
 -- journal_book
 pub journal-book-one : (j pan : List ℕ) (label amount clock x r q y z : ℕ) (k l : List ℕ)
@@ -54,7 +54,7 @@ pub journal-survey-one : (j out : List ℕ) (x r q y z : ℕ) (k l : List ℕ)
 journal-survey-one j out x r q y z k l f g = hands-on-bytes f g (one-survey j out _ _ k l (f .allowed) (g .allowed))
 
 -- swipe, of either track
-pub swipe-one : (g : Given) (amount clock : ℕ) (t j : List ℕ) (x r q y z : ℕ) (u v k l : List ℕ)
+pub swipe-one : (g : Given) (amount clock : ℕ) (t j : List ℕ) (x : SwipeNumbers) (r q : ℕ) (y z : SwipeNumbers) (u v k l : List ℕ)
     → Swipes g amount clock t j x r y u k → Swipes g amount clock t j x q z v l → (r ≡ q) × (y ≡ z) × (u ≡ v) × (k ≡ l)
 swipe-one g amount clock t j x r q y z u v k l f h =
     let s = swipe.swipe-one g amount clock t j _ _ u v k l (f .allowed) (h .allowed) in

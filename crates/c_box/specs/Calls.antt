@@ -7,6 +7,8 @@ use Rattle.held.specs.Rules.{Finds, TellsOf, saidShown, saidTold}
 use Rattle.journal.specs.Rules.{Books, Releases, saidBooked, saidReleased}
 use Rattle.surveys.specs.Survey.{Surveys, saidSurveyed}
 use Rattle.walker.specs.Steps.{walkRule, startRule, stepRule}
+use Rattle.dates.specs.declared.Left.{Left}
+use Rattle.dates.specs.declared.Left.the-variants.{Days, NoExpiry}
 use Rattle.payer.specs.Payer.{Given}
 use Rattle.swipe.specs.Swipe.{saidSwiped}
 use Rattle.swipe.specs.Swipe as swipe
@@ -41,8 +43,17 @@ JournalSurveys j out x r y k = HandsOn (λ q. Surveys j out q k) saidSurveyed x 
 
 -- ---- the swipes, of the track that is given: u is the scratch, lent as t, and k the journal, lent as j
 
-abbrev pub Swipes : Given → ℕ → ℕ → List ℕ → List ℕ → ℕ → ℕ → ℕ → List ℕ → List ℕ → Type 0
-Swipes g amount clock t j x r y u k = HandsOn (λ q. swipe.Swipes g amount clock t j q u k) saidSwiped x (λ v. v) r y
+-- behind the pointers to the serial, to whether the card expires, and to the days left
+abbrev pub SwipeNumbers : Type 0
+SwipeNumbers = ℕ × ℕ × ℕ
+
+-- 1 and the days left; 0 for a card without an expiry, and the days stay
+abbrev pub swipeNumbers : SwipeNumbers → ℕ → Left → SwipeNumbers
+swipeNumbers x serial (Days n) = (serial, 1, n)
+swipeNumbers x serial NoExpiry = (serial, 0, x .2)
+
+abbrev pub Swipes : Given → ℕ → ℕ → List ℕ → List ℕ → SwipeNumbers → ℕ → SwipeNumbers → List ℕ → List ℕ → Type 0
+Swipes g amount clock t j x r y u k = HandsOn (λ q. swipe.Swipes g amount clock t j q u k) saidSwiped x (λ b. swipeNumbers x (b .serial) (b .left)) r y
 
 -- ---- the host's ledger, whose two numbers are lent
 

@@ -1,4 +1,5 @@
 // The records of a script (docs/FORMATS.md), one function a kind.
+use dates::Date;
 ghost use Prim.Native.Nat.{_+_, _≤_};
 ghost use lib.ListN.{length};
 
@@ -27,7 +28,8 @@ fn put_numbers(room: &mut [u8], amount: u32, clock: u32, serial: u32, place: u32
     put_number(room, 16, place);
 }
 
-// Record n of a script; what its kind has no use for is ignored. `place` is a swipe's bit count too. A PAN has 16 digits, and label 7.
+// Record n of a script; what its kind has no use for is ignored. `serial` is a swipe's date too, and `place` its bit count. A PAN has 16 digits, and
+// label 7.
 fn write(
     script: &mut [u8],
     n: u8,
@@ -59,12 +61,33 @@ pub fn release(script: &mut [u8], n: u8, serial: u32) {
     write(script, n, 2, 0, 0, serial, 0, b"");
 }
 
-pub fn swipe2(script: &mut [u8], n: u8, amount: u32, bits: u32, stream: &[u8]) {
-    write(script, n, 3, amount, 0, 0, bits, stream);
+// A date as one number: the year in its lower half, then a byte for the month and one for the day.
+fn packed(date: Date) -> u32 {
+    date.year % 65536 + 65536 * (date.month % 256) + 16777216 * (date.day % 256)
 }
 
-pub fn swipe1(script: &mut [u8], n: u8, amount: u32, bits: u32, stream: &[u8]) {
-    write(script, n, 4, amount, 0, 0, bits, stream);
+pub fn swipe2(
+    script: &mut [u8],
+    n: u8,
+    amount: u32,
+    date: Date,
+    clock: u32,
+    bits: u32,
+    stream: &[u8],
+) {
+    write(script, n, 3, amount, clock, packed(date), bits, stream);
+}
+
+pub fn swipe1(
+    script: &mut [u8],
+    n: u8,
+    amount: u32,
+    date: Date,
+    clock: u32,
+    bits: u32,
+    stream: &[u8],
+) {
+    write(script, n, 4, amount, clock, packed(date), bits, stream);
 }
 
 // A record of no known kind.

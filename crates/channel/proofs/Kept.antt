@@ -66,8 +66,8 @@ own-serial clock (book pan label amount) a o = by a
 own-serial clock (swipe card amount scratch) a o = by (a .says) (cardRule card)
   where
     by : (r : Swiped) (p : Outcome Payer) → serialIn (ofSwipe r p clock amount) ≡ 0
-    by (swiping.Serial s) (gives p) = refl
-    by (swiping.Serial s) (refuses x) = refl
+    by (swiping.Booked s d) (gives p) = refl
+    by (swiping.Booked s d) (refuses x) = refl
     by (swiping.Refused x) (gives p) = refl
     by (swiping.Refused x) (refuses y) = refl
 own-serial clock (release s) a o = absurd o

@@ -1,3 +1,4 @@
-// The commands on texts and tables.
+// The commands on texts, tables and dates.
+pub mod calendar;
 pub mod tables;
 pub mod texts;

@@ -33,6 +33,7 @@ fn answer(
     match command {
         Command::Tables(c) => keeping::on_tables(out, c, line, site, acquirer, st),
         Command::Hot(c) => keeping::on_hot(out, c, line, hot, st),
+        Command::Date => keeping::on_date(out, line, st),
         Command::Fill(c) => keeping::in_place(out, c, line, journal, st),
         Command::Change(c) => keeping::change(out, c, line, site, acquirer, hot, journal, st),
         Command::Ledger(c) => keeping::on_ledger(out, c, line, st),

@@ -11,7 +11,8 @@ use Rattle.payer.specs.Payer.{Given}
 use Rattle.swipe.specs.Swipe.{saidSwiped}
 use Rattle.history.specs.History.{Call, book, swipe, release, reads, find, tell, survey, walkAbove, walkFirst, walkStep, AnswerTo, Done}
 use Rattle.hands.specs.Hands.{Hands}
-use Rattle.c_box.specs.Calls.{JournalBooks, JournalReleases, JournalShows, JournalTells, JournalWalks, WalkStarts, WalkSteps, JournalSurveys, Swipes}
+use Rattle.c_box.specs.Calls.{JournalBooks, JournalReleases, JournalShows, JournalTells, JournalWalks, WalkStarts, WalkSteps, JournalSurveys}
+use Rattle.c_box.specs.Calls.{SwipeNumbers, swipeNumbers, Swipes}
 
 -- ---- one call
 
@@ -37,7 +38,7 @@ Lent (walks s) = ℕ × ℕ
 Lent starts = ℕ
 Lent (steps s) = ℕ × ℕ
 Lent surveys = ℕ × List ℕ
-Lent (swipes card amount) = ℕ × List ℕ
+Lent (swipes card amount) = SwipeNumbers × List ℕ
 
 -- what the interface promises of it, made at a clock reading on a journal j and lent x: it answers r and leaves y and the journal k. An amount is a
 -- number of 32 bits, and a call that is lent a const journal leaves it
@@ -74,7 +75,7 @@ Hears (walks s) x q r y = Hands q x (λ v. v) r y
 Hears starts x q r y = Hands q x (λ v. v) r y
 Hears (steps s) x q r y = Hands q x (λ v. v) r y
 Hears surveys x q r y = Hands (saidSurveyed (q .says)) (x .0) bitN r (y .0) × (y .1 ≡ q .states)
-Hears (swipes card amount) x q r y = Hands (saidSwiped (q .says)) (x .0) (λ v. v) r (y .0) × (y .1 ≡ q .scratch)
+Hears (swipes card amount) x q r y = Hands (saidSwiped (q .says)) (x .0) (λ b. swipeNumbers (x .0) (b .serial) (b .left)) r (y .0) × (y .1 ≡ q .scratch)
 
 -- ---- calls one after another
 

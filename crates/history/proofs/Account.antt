@@ -151,7 +151,7 @@ swipe-step j b top g amount clock r k o small (one-booking p e w) =
     subst⁻¹ (λ (c : Outcome Payer). Step j b top (ofSwipe r c clock amount) k) e (pays r (book-step j b top (p .pan) (p .label) amount clock (asBooked r) k o small w))
   where
     pays : (r : Swiped) → Step j b top (ofBooking (asBooked r) clock amount (p .label) (p .pan)) k → Step j b top (ofSwipe r (gives p) clock amount) k
-    pays (swiping.Serial s) w = w
+    pays (swiping.Booked s d) w = w
     pays (swiping.Refused x) w = w
 
 -- a release up to s frees those above the highest released before

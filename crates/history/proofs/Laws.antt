@@ -3,13 +3,7 @@ use Prim.Native.Nat.{ℕ, _*_, _≤_}
 use mathlib.Core.Path.{_≡_}
 use mathlib.Core.List.{List, map}
 use lib.ListN.{replicate}
-use native.Mathlib.Omega.{arith}
 use Rattle.slots.specs.Journal.{SameButClocks}
-use Rattle.reasons.specs.Reasons.{gives}
-use Rattle.payer.specs.Payer.{Given, Payer, cardRule}
-use Rattle.swipe.specs.Swipe.{Swipes}
-use Rattle.swipe.specs.declared.Swiped.the-variants.{Serial}
-use Rattle.swipe.proofs.Laws.{ComesTo, refusal, one-booking, swipe-comes-to}
 use Rattle.history.specs.History.{Done, Run, Demand3, SameCalls, SameOutcomes}
 use Rattle.history.proofs.Demand.{from-zeros}
 use Rattle.history.proofs.Twins.{clocks-same, twins}
@@ -19,15 +13,6 @@ use Rattle.history.proofs.One.{one-run}
 -- those up to the highest serial of any release not refused; no payment is lost or made up"
 pub demand-3 : (n : ℕ) → 1 ≤ n → n ≤ 2048 → (ds : List Done) (j : List ℕ) → Run (replicate (32 * n) 0) ds j → Demand3 ds j
 demand-3 = from-zeros
-
--- a serial is answered only for a card that says who pays: the payment that a swipe counts as is that card's
-pub swiped-card : (g : Given) (amount clock : ℕ) (t j : List ℕ) (s : ℕ) (u k : List ℕ) → Swipes g amount clock t j (Serial s) u k
-    → (p : Payer) × (cardRule g ≡ gives p)
-swiped-card g amount clock t j s u k w = go (swipe-comes-to g amount clock t j (Serial s) u k w)
-  where
-    go : ComesTo g amount clock j (Serial s) k → (p : Payer) × (cardRule g ≡ gives p)
-    go (refusal x e q) = let z : _≡_ {A = ℕ} 0 1 = cc in absurd (omega arith)
-    go (one-booking p e q) = (p, e)
 
 -- "change the clock readings at will: every answer and every journal byte stays the same, clock fields apart, in the journal and in each
 -- record handed out"; from an all-zero journal, and from any two that differ in clock fields alone

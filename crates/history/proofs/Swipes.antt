@@ -12,10 +12,10 @@ use Rattle.slots.specs.Journal.{NewestIs, SameButClocks, slotsOf}
 use Rattle.slots.specs.Views.{Seen}
 use Rattle.slots.proofs.Clocks.{slot-state}
 use Rattle.slots.specs.declared.Newest.{Newest}
-use Rattle.journal.specs.Rules.{heldSlots, bookRule, bookBytes}
+use Rattle.journal.specs.Rules.{heldSlots, bookBytes}
 use Rattle.journal.proofs.Clocks.{clock-book, clock-book-bytes}
 use Rattle.payer.specs.Payer.{room, Given, Payer}
-use Rattle.swipe.specs.Swipe.{swipeRule, swipeAnswer, swipeBytes, Charges, Swipes}
+use Rattle.swipe.specs.Swipe.{swipeRule, receipt, swipeAnswer, swipeBytes, Charges, Swipes}
 use Rattle.swipe.specs.declared.Swiped.{Swiped}
 use Rattle.swipe.proofs.Steps.{short-scratch}
 use Rattle.swipe.proofs.Laws.{swiped-one, same-decision}
@@ -32,7 +32,7 @@ module _ (j k : List ℕ) (s : SameButClocks j k) (g : Given) (amount space : �
 
   clock-answer : (m : Newest) → swipeAnswer m g amount space j ≡ swipeAnswer m g amount space k
   unfolding swipeAnswer
-  clock-answer m = λ i. andThen (clock-rule m i) (λ p. clock-book j k s m (p .pan) (p .label) amount i)
+  clock-answer m = λ i. andThen (clock-rule m i) (λ p. andThen (clock-book j k s m (p .pan) (p .label) amount i) (λ n. gives (receipt n (p .left))))
 
   clock-bytes : (m : Newest) → NewestIs j m → (c d : ℕ) → SameButClocks (swipeBytes m g amount space c j) (swipeBytes m g amount space d k)
   unfolding swipeBytes
@@ -44,13 +44,16 @@ module _ (j k : List ℕ) (s : SameButClocks j k) (g : Given) (amount space : �
       go (gives p) = clock-book-bytes j k s m is (p .pan) (p .label) amount c d
       go (refuses x) = s
 
+  no-answer : (m : Newest) (l : List ℕ) {x : ℕ} → swipeRule m g amount space l ≡ refuses x → swipeAnswer m g amount space l ≡ refuses x
+  unfolding swipeAnswer
+  no-answer m l e = rw e
+
   -- with too little scratch no view is taken, and none matters
   clock-short : (m n : Newest) (c d : ℕ) → space < room (g .track)
       → (swipeAnswer m g amount space j ≡ swipeAnswer n g amount space k) × SameButClocks (swipeBytes m g amount space c j) (swipeBytes n g amount space d k)
-  unfolding swipeAnswer swipeBytes
+  unfolding swipeBytes
   clock-short m n c d h = (
-    ap (λ (o : Outcome Payer). andThen o (λ p. bookRule m j (p .pan) (p .label) amount)) (short-scratch m g amount space j h)
-        ∙ sym (ap (λ (o : Outcome Payer). andThen o (λ p. bookRule n k (p .pan) (p .label) amount)) (short-scratch n g amount space k h)),
+    no-answer m j (short-scratch m g amount space j h) ∙ sym (no-answer n k (short-scratch n g amount space k h)),
     subst⁻¹ (λ (o : Outcome Payer). SameButClocks (after o j (λ p. bookBytes m j (p .pan) (p .label) amount c)) (swipeBytes n g amount space d k)) (short-scratch m g amount space j h)
         (subst⁻¹ (λ (o : Outcome Payer). SameButClocks j (after o k (λ p. bookBytes n k (p .pan) (p .label) amount d))) (short-scratch n g amount space k h) s),
   )

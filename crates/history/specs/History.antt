@@ -163,9 +163,9 @@ ofBooking (booking.Serial s) clock amount label pan = booked-one (record { seria
 ofBooking (booking.Refused x) clock amount label pan = nothing
 
 -- a swipe booked where it answers a serial, by that answer alone; with the PAN and the label that its card says, none where the card is refused
--- (a serial is never answered for such a card: `swiped-card`)
+-- (a serial is never answered for such a card: `swiped-card` of `swipe`)
 abbrev pub ofSwipe : Swiped → Outcome Payer → ℕ → ℕ → Effect
-ofSwipe (swiping.Serial s) card clock amount = ofBooking (booking.Serial s) clock amount (after card 0 (λ p. p .label)) (after card [] (λ p. p .pan))
+ofSwipe (swiping.Booked s d) card clock amount = ofBooking (booking.Serial s) clock amount (after card 0 (λ p. p .label)) (after card [] (λ p. p .pan))
 ofSwipe (swiping.Refused x) card clock amount = nothing
 
 abbrev pub ofRelease : Released → ℕ → Effect

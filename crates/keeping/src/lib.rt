@@ -1,5 +1,7 @@
-// The commands that keep something from line to line: the tables, the hot list, the journal, the host's ledger.
+// The commands that keep something from line to line: the tables, the hot list, the host's date, the journal, the host's ledger.
+use checks::calendar;
 use checks::tables;
+use dates::Date;
 use hotcards::Kept;
 use journals::memory;
 use ledger::Ledger;
@@ -22,6 +24,8 @@ pub struct State {
     pub length: usize,
     // how many numbers of the hot list's buffer are in use, and their PAN length
     pub hot: Kept,
+    // the host's date
+    pub date: Date,
     // whether the journal is a file, its descriptor, whether that is for reading alone, and whether it can't be used any more
     pub filed: bool,
     pub fd: i32,
@@ -34,7 +38,7 @@ pub struct State {
     pub prompt: bool,
 }
 
-// No tables, an empty hot list, an empty journal of 2,048 slots in memory, and a fresh ledger.
+// No tables, an empty hot list, no date yet, an empty journal of 2,048 slots in memory, and a fresh ledger.
 pub fn in_memory(shown: bool) -> State
     ensures { λ r. ⌜ (r .site ≤ 0) × (r .acquirer ≤ 0) × (r .length ≤ 65536) ⌝ }
 {
@@ -43,6 +47,7 @@ pub fn in_memory(shown: bool) -> State
         acquirer: 0,
         length: 65536,
         hot: hotcards::none(),
+        date: calendar::none(),
         filed: false,
         fd: -1,
         read_only: false,
@@ -106,6 +111,15 @@ pub fn on_hot(out: &mut [u8], c: OnHot, line: &[u8], hot: &mut [u64; 8192], st: 
     }
 }
 
+// ---- the host's date
+
+pub fn on_date(out: &mut [u8], line: &[u8], st: State) -> State {
+    let kept = st.date;
+    let mut next = st;
+    next.date = calendar::take_in(out, line, kept);
+    next
+}
+
 // ---- the journal
 
 // How many bytes of the journal's buffer are in use: n of them, or all.
@@ -160,6 +174,7 @@ fn change_in(
     acquirer: &[u8],
     hot: &[u64],
     digits: u32,
+    date: Date,
     journal: &mut [u8],
     at: Place,
 ) -> bool {
@@ -173,6 +188,7 @@ fn change_in(
             acquirer,
             hot,
             digits,
+            date,
             journal,
             at,
         ),
@@ -209,6 +225,7 @@ pub fn change(
         fd: st.fd,
     };
     let kept = st.hot;
+    let date = st.date;
     let n = in_use(journal, st.length);
     let usable = change_in(
         out,
@@ -218,6 +235,7 @@ pub fn change(
         text::piece(acquirer, 0, st.acquirer),
         hotcards::in_use(hot, kept.count),
         kept.digits,
+        date,
         &mut journal[0..n],
         at,
     );

@@ -3,6 +3,7 @@ use bits::Read;
 use held::Told;
 use layout::Track;
 use ranges::Found;
+use samples::DAY;
 use samples::E1;
 use samples::EVERY;
 use samples::NONE;
@@ -93,6 +94,7 @@ fn swiped(track: Track, stream: &[u8], bits: u64, scratch: &mut [u8]) -> Swiped 
         &none,
         16,
         250,
+        DAY,
         0,
         scratch,
         &mut journal,
@@ -110,7 +112,7 @@ fn swipe_with(
     let answer = swiped(track, stream, bits, scratch);
     lent(out, what, scratch);
     match answer {
-        Swiped::Serial(_) => say::words(out, b"booked\n"),
+        Swiped::Booked(_, _) => say::words(out, b"booked\n"),
         Swiped::Refused(why) => say::refused(out, why),
     }
 }

@@ -1,6 +1,11 @@
-// Hot lists too long to write out, as long as a list may be and one number longer; and wrong ones, which no command keeps.
+// Hot lists too long to write out, as long as a list may be and one number longer; and wrong ones and wrong dates, which no command keeps.
+mod days;
+
+use dates::Date;
+use dates::Left;
 use hotcards::in_use;
 use layout::Track;
+use samples::DAY;
 use samples::EVERY;
 use samples::NONE;
 use samples::W11;
@@ -45,27 +50,56 @@ fn ask_all_wrong(out: &mut [u8; 4096]) {
 
 // ---- the swipe
 
-fn swiped(site: &[u8], list: &[u64], digits: u32, amount: u32) -> Swiped {
-    let w11 = W11;
+// A swipe of track 2, in an empty journal of one slot.
+fn swiped(
+    stream: &[u8],
+    bits: u64,
+    site: &[u8],
+    list: &[u64],
+    digits: u32,
+    amount: u32,
+    date: Date,
+) -> Swiped {
     let mut scratch = [0u8; 37];
     let mut journal = [0u8; 32];
     swipe::swipe(
         Track::Two,
-        &w11,
-        135,
+        stream,
+        bits,
         site,
         b"",
         list,
         digits,
         amount,
+        date,
         0,
         &mut scratch,
         &mut journal,
     )
 }
 
+// What a card has left.
+fn left_of(out: &mut [u8; 4096], left: Left) {
+    match left {
+        Left::Days(n) => say::value(out, b"days ", n as u64),
+        Left::NoExpiry => say::words(out, b"no expiry"),
+    }
+}
+
+fn answered(out: &mut [u8; 4096], answer: Swiped) {
+    match answer {
+        Swiped::Booked(_, left) => {
+            say::words(out, b"booked, ");
+            left_of(out, left);
+            say::line(out);
+        }
+        Swiped::Refused(why) => say::refused(out, why),
+    }
+}
+
 // W11 swiped with this table of the site's and this list.
 fn swipe(out: &mut [u8; 4096], site: &[u8], list: &[u64], digits: u32, amount: u32) {
+    let w11 = W11;
     let numbers = [
         amount as u64,
         site.len() as u64,
@@ -77,10 +111,7 @@ fn swipe(out: &mut [u8; 4096], site: &[u8], list: &[u64], digits: u32, amount: u
         b"swipe of W11 for #, a table of # bytes, # numbers of # digits: ",
         &numbers,
     );
-    match swiped(site, list, digits, amount) {
-        Swiped::Serial(_) => say::words(out, b"booked\n"),
-        Swiped::Refused(why) => say::refused(out, why),
-    }
+    answered(out, swiped(&w11, 135, site, list, digits, amount, DAY));
 }
 
 // A wrong list comes after a wrong table, and before an amount of 0.
@@ -124,4 +155,5 @@ pub fn run(out: &mut [u8; 4096]) {
     longest(out, &list);
     ask_all_wrong(out);
     swipe_wrong(out);
+    days::run(out);
 }

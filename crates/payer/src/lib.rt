@@ -1,15 +1,23 @@
-// The card that pays: from the stripe to a card number that isn't blocked and the label of its range. For the crates above: all of it is inner.
+// The card that pays: from the stripe to a card that is neither expired nor blocked, the label of its range, and the days that it has left. For the
+// crates above: all of it is inner.
 use bits::Read;
+use dates::Date;
+use dates::Left;
+use dates::inner::Validity;
+use layout::Field;
 use layout::Track;
 use ranges::inner::Labelled;
 use reasons::Reason;
 use reasons::Tested;
 ghost use mathlib.Core.Path.{_≡_};
+ghost use mathlib.Core.Bool.{true};
 ghost use Prim.Native.Nat.{_≤_};
 ghost use lib.ListN.{length, drop};
 ghost use Rattle.bits.specs.Reading.{readRule, readBytes, said, counted};
+ghost use Rattle.layout.specs.Grammar.{fieldIn};
+ghost use Rattle.dates.specs.Dates.{real};
 ghost use Rattle.payer.specs.Payer.{format, divisionRule, room, terms, Sound, given, payerRule, partOf, charsRule, cardRule};
-ghost use Rattle.payer.specs.Payer.{saidSpot, saidCard, panEnd, PanAt};
+ghost use Rattle.payer.specs.Payer.{saidSpot, saidCard, panEnd, Divided};
 
 // ---- the tracks that a swipe reads, and what differs between them
 
@@ -34,14 +42,14 @@ fn read(track: Track, stream: &[u8], bits: u64, out: &mut [u8]) -> Read
     }
 }
 
-// Where the PAN stands in the characters, and its length.
+// Where the PAN stands in the characters, its length, and the expiry.
 pub enum Spot {
-    Stands(usize, usize),
+    Stands(usize, usize, Field),
     Refused(Reason),
 }
 
 // The layout of the characters between the sentinels.
-fn pan_spot(track: Track, chars: &[u8]) -> Spot
+fn spot_of(track: Track, chars: &[u8]) -> Spot
     ensures { λ r. ⌜ saidSpot r ≡ divisionRule track (now (chars .entry)) ⌝ }
 {
     match track {
@@ -49,45 +57,47 @@ fn pan_spot(track: Track, chars: &[u8]) -> Spot
             layout::Division::Refused(r) => Spot::Refused(r),
             layout::Division::Fields {
                 pan: n,
-                expiry: _,
+                expiry: e,
                 service: _,
                 rest: _,
-            } => Spot::Stands(0, n),
+            } => Spot::Stands(0, n, e),
         },
         Track::One => match layout1::divide(chars) {
             layout1::Division::Refused(r) => Spot::Refused(r),
             layout1::Division::Fields {
                 pan: n,
                 name: _,
-                expiry: _,
+                expiry: e,
                 service: _,
                 rest: _,
-            } => Spot::Stands(1, n),
+            } => Spot::Stands(1, n, e),
         },
     }
 }
 
 // ---- the card
 
-// A card that pays: where its PAN stands in the scratch, the PAN's length, and the label of its range.
+// A card that pays: where its PAN stands in the scratch, the PAN's length, the label of its range, and the days that it has left.
 pub enum Card {
-    Pays(usize, usize, u16),
+    Pays(usize, usize, u16, Left),
     Refused(Reason),
 }
 
-// Luhn, the look-up and the hot list, of the n digits from `at`.
-fn card_of_pan(
+// Luhn and the look-up of the n digits from `at`, the expiry, then the hot list.
+fn card_at(
     chars: &[u8],
     at: usize,
     n: usize,
+    expiry: Field,
     site: &[u8],
     acquirer: &[u8],
     hot: &[u64],
     digits: u32,
+    date: Date,
 ) -> Card
-    requires { ⌜ Sound (terms (now site) (now acquirer) (now hot) digits) × PanAt (now chars) at n ⌝ }
-    ensures { λ r. ⌜ (saidCard r (now (chars .entry)) ≡ payerRule (terms (now (site .entry)) (now (acquirer .entry)) (now (hot .entry)) digits)
-        (partOf (now (chars .entry)) at n)) × (panEnd r ≤ length (now (chars .entry))) ⌝ }
+    requires { ⌜ Sound (terms (now site) (now acquirer) (now hot) digits) × (real date ≡ true) × Divided (now chars) at n expiry ⌝ }
+    ensures { λ r. ⌜ (saidCard r (now (chars .entry)) ≡ payerRule (terms (now (site .entry)) (now (acquirer .entry)) (now (hot .entry)) digits) date
+        (partOf (now (chars .entry)) at n) (fieldIn 4 (now (chars .entry)) expiry)) × (panEnd r ≤ length (now (chars .entry))) ⌝ }
 {
     let end = at + n;
     let pan = &chars[at..end];
@@ -95,17 +105,20 @@ fn card_of_pan(
         Tested::Refused(r) => Card::Refused(r),
         Tested::Passes => match ranges::inner::label_tested(site, acquirer, pan) {
             Labelled::Refused(r) => Card::Refused(r),
-            Labelled::Label(l) => {
-                if hotlist::inner::is_listed(hot, digits, pan) {
-                    return Card::Refused(Reason::ListedCard);
+            Labelled::Label(l) => match dates::inner::left_on(date, chars, expiry) {
+                Validity::Refused(r) => Card::Refused(r),
+                Validity::Good(left) => {
+                    if hotlist::inner::is_listed(hot, digits, pan) {
+                        return Card::Refused(Reason::ListedCard);
+                    }
+                    Card::Pays(at, n, l, left)
                 }
-                Card::Pays(at, n, l)
-            }
+            },
         },
     }
 }
 
-// The layout of the characters, then their PAN.
+// The layout of the characters, then their PAN and expiry.
 fn card_of_chars(
     track: Track,
     chars: &[u8],
@@ -113,14 +126,17 @@ fn card_of_chars(
     acquirer: &[u8],
     hot: &[u64],
     digits: u32,
+    date: Date,
 ) -> Card
-    requires { ⌜ Sound (terms (now site) (now acquirer) (now hot) digits) ⌝ }
-    ensures { λ r. ⌜ (saidCard r (now (chars .entry)) ≡ charsRule track (terms (now (site .entry)) (now (acquirer .entry)) (now (hot .entry)) digits)
+    requires { ⌜ Sound (terms (now site) (now acquirer) (now hot) digits) × (real date ≡ true) ⌝ }
+    ensures { λ r. ⌜ (saidCard r (now (chars .entry)) ≡ charsRule track (terms (now (site .entry)) (now (acquirer .entry)) (now (hot .entry)) digits) date
         (now (chars .entry))) × (panEnd r ≤ length (now (chars .entry))) ⌝ }
 {
-    match pan_spot(track, chars) {
+    match spot_of(track, chars) {
         Spot::Refused(r) => Card::Refused(r),
-        Spot::Stands(at, n) => card_of_pan(chars, at, n, site, acquirer, hot, digits),
+        Spot::Stands(at, n, expiry) => {
+            card_at(chars, at, n, expiry, site, acquirer, hot, digits, date)
+        }
     }
 }
 
@@ -133,16 +149,21 @@ pub fn card_of_stripe(
     acquirer: &[u8],
     hot: &[u64],
     digits: u32,
+    date: Date,
     scratch: &mut [u8],
 ) -> Card
-    requires { ⌜ (room track ≤ length (now scratch)) × Sound (terms (now site) (now acquirer) (now hot) digits) ⌝ }
+    requires { ⌜ (room track ≤ length (now scratch)) × Sound (terms (now site) (now acquirer) (now hot) digits) × (real date ≡ true) ⌝ }
     ensures { λ r. ⌜ (saidCard r (now (scratch .exit)) ≡ cardRule (given track (now (stream .entry)) bits
-        (terms (now (site .entry)) (now (acquirer .entry)) (now (hot .entry)) digits)))
+        (terms (now (site .entry)) (now (acquirer .entry)) (now (hot .entry)) digits) date))
         × (panEnd r ≤ length (now (scratch .exit))) × (drop (room track) (now (scratch .exit)) ≡ drop (room track) (now (scratch .entry))) ⌝ }
 {
     match read(track, stream, bits, scratch) {
         Read::Refused(r) => Card::Refused(r),
-        Read::Forward(n) => { card_of_chars(track, &scratch[..n], site, acquirer, hot, digits) }
-        Read::Reversed(n) => { card_of_chars(track, &scratch[..n], site, acquirer, hot, digits) }
+        Read::Forward(n) => {
+            card_of_chars(track, &scratch[..n], site, acquirer, hot, digits, date)
+        }
+        Read::Reversed(n) => {
+            card_of_chars(track, &scratch[..n], site, acquirer, hot, digits, date)
+        }
     }
 }

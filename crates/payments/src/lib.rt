@@ -1,11 +1,14 @@
 // The commands that change the journal, in memory or in a file: book, swipe, release. Each answers whether the journal can be used any more:
 // one that could not be written can't, so that nothing is told that the file may not hold.
+use dates::Date;
+use dates::Left;
 use disk::Stored;
 use journal::Booked;
 use journal::Released;
 use layout::Track;
 use say::fields;
 use swipe::Swiped;
+ghost use Prim.Native.Nat.{_≤_};
 
 // Where the journal is kept: in memory alone, or in a file too.
 pub struct Place {
@@ -37,13 +40,19 @@ fn kept(out: &mut [u8], journal: &[u8], first: u32, count: u32, at: Place) -> bo
 
 // ---- book and swipe
 
-// Answers a booking once it is on the disk.
-fn booked(out: &mut [u8], journal: &[u8], serial: u32, at: Place) -> bool {
+// Answers a booking, in words with numbers among them, once it is on the disk.
+fn booked(
+    out: &mut [u8],
+    journal: &[u8],
+    serial: u32,
+    form: &[u8],
+    numbers: &[u64],
+    at: Place,
+) -> bool {
     if !kept(out, journal, serial, 1, at) {
         return false;
     }
-    let number = [serial as u64];
-    say::sentence(out, b"booked #\n", &number);
+    say::sentence(out, form, numbers);
     true
 }
 
@@ -57,7 +66,10 @@ fn book_in(
     at: Place,
 ) -> bool {
     match journal::book(journal, pan, label, amount, clock) {
-        Booked::Serial(serial) => booked(out, journal, serial, at),
+        Booked::Serial(serial) => {
+            let number = [serial as u64];
+            booked(out, journal, serial, b"booked #\n", &number, at)
+        }
         Booked::Refused(why) => {
             say::refused(out, why);
             true
@@ -65,40 +77,51 @@ fn book_in(
     }
 }
 
-// What book and swipe have in common, words 3 and 4 of a line.
+// What book and swipe have in common, words 2 to 4 of a line: a number, which is a booking's label and a swipe's bit count, an amount, a clock.
 struct Sale {
     clear: bool,
+    number: u64,
     amount: u32,
     clock: u32,
 }
 
-fn sale_of(out: &mut [u8], line: &[u8]) -> Sale {
+fn unclear_sale() -> Sale
+    ensures { λ r. ⌜ r .number ≤ 0 ⌝ }
+{
+    Sale {
+        clear: false,
+        number: 0,
+        amount: 0,
+        clock: 0,
+    }
+}
+
+fn sale_of(out: &mut [u8], line: &[u8], most: u64) -> Sale
+    ensures { λ r. ⌜ r .number ≤ most ⌝ }
+{
+    let number = fields::number(out, line, 2, most);
+    let number_known = number.clear;
+    if !number_known {
+        return unclear_sale();
+    }
     let amount = fields::number(out, line, 3, 4294967295);
-    let known = amount.clear;
-    if !known {
-        return Sale {
-            clear: false,
-            amount: 0,
-            clock: 0,
-        };
+    let amount_known = amount.clear;
+    if !amount_known {
+        return unclear_sale();
     }
     let clock = fields::number(out, line, 4, 4294967295);
     Sale {
         clear: clock.clear,
+        number: number.value,
         amount: amount.value as u32,
         clock: clock.value as u32,
     }
 }
 
 pub fn book(out: &mut [u8], line: &[u8], journal: &mut [u8], at: Place) -> bool {
-    let label = fields::number(out, line, 2, 65535);
-    let label_known = label.clear;
-    if !label_known {
-        return true;
-    }
-    let sale = sale_of(out, line);
-    let sale_known = sale.clear;
-    if !sale_known {
+    let sale = sale_of(out, line, 65535);
+    let known = sale.clear;
+    if !known {
         return true;
     }
     let pan = script::text_of(script::word(line, 1));
@@ -106,22 +129,36 @@ pub fn book(out: &mut [u8], line: &[u8], journal: &mut [u8], at: Place) -> bool 
         out,
         journal,
         pan,
-        label.value as u16,
+        sale.number as u16,
         sale.amount,
         sale.clock,
         at,
     )
 }
 
+// Answers a swipe that was booked: its serial, and what its card has left.
+fn swiped(out: &mut [u8], journal: &[u8], serial: u32, left: Left, at: Place) -> bool {
+    match left {
+        Left::Days(days) => {
+            let numbers = [serial as u64, days as u64];
+            booked(out, journal, serial, b"booked # days #\n", &numbers, at)
+        }
+        Left::NoExpiry => {
+            let number = [serial as u64];
+            booked(out, journal, serial, b"booked # no expiry\n", &number, at)
+        }
+    }
+}
+
 fn swipe_in(
     out: &mut [u8],
     track: Track,
     stream: &[u8],
-    bits: u64,
     site: &[u8],
     acquirer: &[u8],
     hot: &[u64],
     digits: u32,
+    date: Date,
     sale: Sale,
     journal: &mut [u8],
     at: Place,
@@ -131,17 +168,18 @@ fn swipe_in(
     match swipe::swipe(
         track,
         stream,
-        bits,
+        sale.number,
         site,
         acquirer,
         hot,
         digits,
         sale.amount,
+        date,
         sale.clock,
         &mut scratch,
         journal,
     ) {
-        Swiped::Serial(serial) => booked(out, journal, serial, at),
+        Swiped::Booked(serial, left) => swiped(out, journal, serial, left, at),
         Swiped::Refused(why) => {
             say::refused(out, why);
             true
@@ -157,6 +195,7 @@ fn swipe_stream(
     acquirer: &[u8],
     hot: &[u64],
     digits: u32,
+    date: Date,
     stream: &mut [u8],
     journal: &mut [u8],
     at: Place,
@@ -166,12 +205,7 @@ fn swipe_stream(
     if !stream_known {
         return true;
     }
-    let bits = fields::number(out, line, 2, 18446744073709551615);
-    let bits_known = bits.clear;
-    if !bits_known {
-        return true;
-    }
-    let sale = sale_of(out, line);
+    let sale = sale_of(out, line, 18446744073709551615);
     let sale_known = sale.clear;
     if !sale_known {
         return true;
@@ -181,11 +215,11 @@ fn swipe_stream(
         out,
         track,
         &stream[0..n],
-        bits.value,
         site,
         acquirer,
         hot,
         digits,
+        date,
         sale,
         journal,
         at,
@@ -200,6 +234,7 @@ pub fn swipe(
     acquirer: &[u8],
     hot: &[u64],
     digits: u32,
+    date: Date,
     journal: &mut [u8],
     at: Place,
 ) -> bool {
@@ -212,6 +247,7 @@ pub fn swipe(
         acquirer,
         hot,
         digits,
+        date,
         &mut stream,
         journal,
         at,

@@ -27,6 +27,7 @@ use Rattle.held.proofs.Lists.{held-at-most}
 use Rattle.layout.specs.declared.Track.{Track}
 use Rattle.layout.specs.declared.Track.the-variants.{Two, One}
 use Rattle.payer.specs.Payer.{Terms, Given, Payer}
+use Rattle.dates.specs.declared.Left.{Left}
 use Rattle.swipe.specs.Swipe.{Swipes}
 use Rattle.swipe.specs.declared.Swiped.{Swiped}
 use Rattle.swipe.specs.declared.Swiped.the-variants as swiping
@@ -125,15 +126,15 @@ module _ (g : Given) (amount clock : ℕ) (small : amount < 4294967296) (t j u k
       nothing-came (swipe g amount t) clock (record { says = swiping.Refused x; scratch = u }) t j r u k refl (omega arith)
       (small, subst (λ (a : Swiped). Swipes g amount clock t j a u k) e w) refl n
 
-  pub swiped-came : (s : ℕ) (r : Totals) → q ≡ swiping.Serial s → Paid amount r → PlaysOne (swipe g amount t) clock t j r u k
-  swiped-came s r e n = go (swipe-comes-to g amount clock t j q u k w)
+  pub swiped-came : (s : ℕ) (d : Left) (r : Totals) → q ≡ swiping.Booked s d → Paid amount r → PlaysOne (swipe g amount t) clock t j r u k
+  swiped-came s d r e n = go (swipe-comes-to g amount clock t j q u k w)
     where
       go : ComesTo g amount clock j q k → PlaysOne (swipe g amount t) clock t j r u k
       go (refusal x f h) = let z : _≡_ {A = ℕ} 0 1 = cc in absurd (omega arith)
       go (one-booking p f h) =
-          payment-came (swipe g amount t) clock (record { says = swiping.Serial s; scratch = u })
+          payment-came (swipe g amount t) clock (record { says = swiping.Booked s d; scratch = u })
           (record { serial = s; clock = clock; amount = amount; label = p .label; pan = p .pan }) t j r u k
-          (ap (λ (o : Outcome Payer). ofSwipe (swiping.Serial s) o clock amount) f) small refl refl
+          (ap (λ (o : Outcome Payer). ofSwipe (swiping.Booked s d) o clock amount) f) small refl refl
           (small, subst (λ (a : Swiped). Swipes g amount clock t j a u k) e w) refl n
 
 pub same-swipe : {g g' : Given} {amount amount' clock clock' : ℕ} (t j : List ℕ) (r : Totals) (u k : List ℕ)

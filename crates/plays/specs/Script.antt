@@ -9,6 +9,8 @@ use Rattle.text.specs.Numbers.{u16At, u32At}
 use Rattle.reasons.specs.Reasons.{Outcome, gives, demand}
 use Rattle.layout.specs.declared.Track.{Track}
 use Rattle.layout.specs.declared.Track.the-variants.{Two, One}
+use Rattle.dates.specs.Dates.{date}
+use Rattle.dates.specs.declared.Date.{Date}
 use Rattle.payer.specs.Payer.{Terms, given}
 use Rattle.history.specs.History.{Call, book, swipe, release, reads, aside, AnswerTo, Does, Done}
 use Rattle.history.specs.History.{Effect, booked-one, released-to, nothing, effectOf, booked, takings, freedCount, freedSum}
@@ -16,8 +18,9 @@ use Rattle.plays.specs.declared.Totals.{Totals}
 
 -- ---- the script
 
--- kind 0 (1 book, 2 release, 3 swipe of track 2, 4 of track 1), PAN length 1, label 2 to 3, amount 4 to 7, clock 8 to 11, serial 12 to 15,
--- bit count 16 to 19; 20 to 127 the PAN, from the front, or the stream; what a kind has no use for is ignored
+-- kind 0 (1 book, 2 release, 3 swipe of track 2, 4 of track 1), PAN length 1, label 2 to 3, amount 4 to 7, clock 8 to 11, serial 12 to 15 (of a swipe
+-- the host's date: year 12 to 13, month 14, day 15), bit count 16 to 19; 20 to 127 the PAN, from the front, or the stream; what a kind has no use for
+-- is ignored
 
 abbrev pub kindAt : List ℕ → ℕ → ℕ
 kindAt s at = getD s at 0
@@ -34,6 +37,9 @@ clockAt s at = u32At s (at + 8)
 abbrev pub serialAt : List ℕ → ℕ → ℕ
 serialAt s at = u32At s (at + 12)
 
+abbrev pub dateAt : List ℕ → ℕ → Date
+dateAt s at = date (u16At s (at + 12)) (getD s (at + 14) 0) (getD s (at + 15) 0)
+
 abbrev pub bitsAt : List ℕ → ℕ → ℕ
 bitsAt s at = u32At s (at + 16)
 
@@ -46,7 +52,7 @@ streamAt s at = take 108 (drop (at + 20) s)
 
 -- the swipe in the record at `at`, of this track, on these terms, lent this scratch
 abbrev pub swipeAt : Track → List ℕ → Terms → List ℕ → ℕ → Call
-swipeAt k s terms scratch at = swipe (given k (streamAt s at) (bitsAt s at) terms) (amountAt s at) scratch
+swipeAt k s terms scratch at = swipe (given k (streamAt s at) (bitsAt s at) terms (dateAt s at)) (amountAt s at) scratch
 
 -- the call in the record at `at`; a record of another kind makes none
 unfoldable pub callAt : List ℕ → Terms → List ℕ → ℕ → Call

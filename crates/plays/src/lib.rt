@@ -1,4 +1,5 @@
 // One record of a script of calls played, and the totals of calls. For the crates above: all of it is inner.
+use dates::Date;
 use journal::Booked;
 use journal::Released;
 use layout::Track;
@@ -9,7 +10,7 @@ ghost use Prim.Native.Nat.{ℕ, min, _+_, _≤_};
 ghost use lib.ListN.{getD, length};
 ghost use Rattle.payer.specs.Payer.{terms};
 ghost use Rattle.history.specs.History.{book, release};
-ghost use Rattle.plays.specs.Script.{panAt, labelAt, amountAt, clockAt, serialAt, swipeAt, callAt, PlaysOne, Fits, Adds};
+ghost use Rattle.plays.specs.Script.{panAt, labelAt, amountAt, clockAt, serialAt, dateAt, swipeAt, callAt, PlaysOne, Fits, Adds};
 
 // ---- totals
 
@@ -101,6 +102,17 @@ pub fn play_release(script: &[u8], at: usize, journal: &mut [u8]) -> Totals
     }
 }
 
+// The host's date in the record at `at`.
+fn date_at(script: &[u8], at: usize) -> Date
+    requires { ⌜ at + 128 ≤ length (now script) ⌝ }
+    ensures { λ r. ⌜ r ≡ dateAt (now (script .entry)) at ⌝ }
+{
+    let year = text::u16_at(script, at + 12) as u32;
+    let month = script[at + 14] as u32;
+    let day = script[at + 15] as u32;
+    Date { year, month, day }
+}
+
 fn play_swipe(
     track: Track,
     script: &[u8],
@@ -120,6 +132,7 @@ fn play_swipe(
     let amount = text::u32_at(script, at + 4);
     let clock = text::u32_at(script, at + 8);
     let bits = text::u32_at(script, at + 16);
+    let date = date_at(script, at);
     match swipe::swipe(
         track,
         &script[at + 20..at + 128],
@@ -129,12 +142,13 @@ fn play_swipe(
         hot,
         digits,
         amount,
+        date,
         clock,
         scratch,
         journal,
     ) {
         Swiped::Refused(_) => counted(0, 0, 1, 0),
-        Swiped::Serial(_) => counted(1, amount as u64, 0, 0),
+        Swiped::Booked(_, _) => counted(1, amount as u64, 0, 0),
     }
 }
 

@@ -1,6 +1,8 @@
 // Box and host over the radio: five payments in a journal of three slots, most of them at the epoch, and an air of four places. First the host hears
-// nothing that it wants; then records and answers arrive late, twice and out of order; in the end all have arrived.
+// nothing that it wants; then records and answers arrive late, twice and out of order; in the end all have arrived. The swipes are on the last two days
+// on which their cards are good.
 use box_cases::battery;
+use dates::Date;
 use exchange::Exchanged;
 use exchange::Sums;
 use samples::E1;
@@ -10,14 +12,22 @@ use samples::W11;
 
 // ---- the script
 
+fn in_december(day: u32) -> Date {
+    Date {
+        year: 2025,
+        month: 12,
+        day,
+    }
+}
+
 // Three payments fill the journal, and a fourth is refused with 18. The host hears noise from a place that nothing was sent into, and answers nothing:
 // an answer of 0 was never sent. Record 1 is sent into a place that isn't there, and lost. Record 2 isn't wanted yet; the host answers 0, which meets 20
 // at the box. An answer that was never sent does nothing, and a release written into the script is passed over.
 fn unheard(script: &mut [u8; 4480]) {
     let w11 = W11;
-    call_records::book(script, 0, 100, 1772236800);
+    call_records::book(script, 0, 100, 1767052800);
     call_records::book(script, 1, 200, 0);
-    call_records::swipe2(script, 2, 300, 135, &w11);
+    call_records::swipe2(script, 2, 300, in_december(30), 0, 135, &w11);
     call_records::book(script, 3, 350, 0);
     call_records::deliver(script, 4, 0);
     call_records::answer(script, 5, 0);
@@ -37,7 +47,7 @@ fn late(script: &mut [u8; 4480]) {
     call_records::deliver(script, 14, 0);
     call_records::deliver(script, 15, 0);
     call_records::answer(script, 16, 1);
-    call_records::book(script, 17, 400, 1772323200);
+    call_records::book(script, 17, 400, 1767139200);
     call_records::deliver(script, 18, 1);
     call_records::deliver(script, 19, 0);
     call_records::answer(script, 20, 4);
@@ -59,8 +69,8 @@ fn caught_up(script: &mut [u8; 4480]) {
 fn one_more(script: &mut [u8; 4480]) {
     let w11 = W11;
     let e1 = E1;
-    call_records::swipe1(script, 29, 450, 135, &w11);
-    call_records::swipe1(script, 30, 500, 259, &e1);
+    call_records::swipe1(script, 29, 450, in_december(31), 0, 135, &w11);
+    call_records::swipe1(script, 30, 500, in_december(31), 0, 259, &e1);
     call_records::send(script, 31, 5, 2);
     call_records::deliver(script, 32, 2);
     call_records::answer(script, 33, 5);

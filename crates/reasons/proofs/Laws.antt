@@ -15,7 +15,8 @@ use Rattle.reasons.specs.Lines.{inOrder}
 use Rattle.reasons.specs.declared.Reason.{Reason}
 use Rattle.reasons.specs.declared.Reason.the-variants.{ShortOutput, BadCount, BadByte, WrongCheck, UnknownCountry, WrongLayout, BadBitCount}
 use Rattle.reasons.specs.declared.Reason.the-variants.{NoStart, CutShort, WrongParity, LongTrack, WrongLrc, MarksAfter, BadTable}
-use Rattle.reasons.specs.declared.Reason.the-variants.{NoRange, BadJournal, ZeroAmount, JournalFull, SerialsUsedUp, NoSerial, BadHotList, ListedCard}
+use Rattle.reasons.specs.declared.Reason.the-variants.{NoRange, BadJournal, ZeroAmount, JournalFull, SerialsUsedUp, NoSerial}
+use Rattle.reasons.specs.declared.Reason.the-variants.{BadHotList, ListedCard, BadDate, ExpiredCard}
 
 -- a value is not a refusal
 pub gives-refuses : {A B : Type 0} (v : A) (n : ℕ) → _≡_ {A = Outcome A} (gives v) (refuses n) → B
@@ -97,6 +98,8 @@ back SerialsUsedUp = refl
 back NoSerial = refl
 back BadHotList = refl
 back ListedCard = refl
+back BadDate = refl
+back ExpiredCard = refl
 
 -- equal refusals, equal numbers
 pub refused-number : {A : Type 0} (m n : ℕ) → _≡_ {A = Outcome A} (refuses m) (refuses n) → m ≡ n
@@ -142,12 +145,16 @@ module _ {A B : Type 0} (o : Outcome A) (f : A → Outcome B) where
   pub goes-on-exactly : (w : B) → (andThen o f ≡ gives w) ↔ ((v : A) × (o ≡ gives v) × (f v ≡ gives w))
   goes-on-exactly w = (went-on o f w, λ h. goes-on (gives (h .0)) (gives w) (h .1) (h .2))
 
-  -- and it refuses n exactly where the first refuses n, or gives a value with which the second refuses n
-  pub either-exactly : {Rest : A → Type 0} (n : ℕ) → ((v : A) → (f v ≡ refuses n) ↔ Rest v) → (andThen o f ≡ refuses n) ↔ Either o n Rest
-  either-exactly n r = (
-    λ e. ⊎-elim (λ h. inl h) (λ h. inr (h .0, h .1, r (h .0) .0 (h .2))) (went-wrong o f n e),
-    ⊎-elim (λ h. goes-on (refuses n) (refuses n) h refl) (λ h. goes-on (gives (h .0)) (refuses n) (h .1) (r (h .0) .1 (h .2))),
+  -- and it refuses n exactly where the first refuses n, which may be known in other words, or gives a value with which the second refuses n
+  pub either-where : {Here : Type 0} {Rest : A → Type 0} (n : ℕ) → (o ≡ refuses n) ↔ Here → ((v : A) → (f v ≡ refuses n) ↔ Rest v)
+      → (andThen o f ≡ refuses n) ↔ (Here ⊎ ((v : A) × (o ≡ gives v) × Rest v))
+  either-where n p r = (
+    λ e. ⊎-elim (λ h. inl (p .0 h)) (λ h. inr (h .0, h .1, r (h .0) .0 (h .2))) (went-wrong o f n e),
+    ⊎-elim (λ h. goes-on (refuses n) (refuses n) (p .1 h) refl) (λ h. goes-on (gives (h .0)) (refuses n) (h .1) (r (h .0) .1 (h .2))),
   )
+
+  pub either-exactly : {Rest : A → Type 0} (n : ℕ) → ((v : A) → (f v ≡ refuses n) ↔ Rest v) → (andThen o f ≡ refuses n) ↔ Either o n Rest
+  either-exactly n r = either-where n (λ h. h, λ h. h) r
 
 -- what follows a chain stands behind its last link, so that such a chain is told link by link too
 follows : {A B : Type 0} (t : Bool) (n : ℕ) (o : Outcome A) (f : A → Outcome B) → andThen (demand t n o) f ≡ demand t n (andThen o f)

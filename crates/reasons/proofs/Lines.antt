@@ -14,7 +14,8 @@ use Rattle.reasons.specs.Lines.{line, linesOf, inOrder}
 use Rattle.reasons.specs.declared.Reason.{Reason}
 use Rattle.reasons.specs.declared.Reason.the-variants.{ShortOutput, BadCount, BadByte, WrongCheck, UnknownCountry, WrongLayout, BadBitCount}
 use Rattle.reasons.specs.declared.Reason.the-variants.{NoStart, CutShort, WrongParity, LongTrack, WrongLrc, MarksAfter, BadTable}
-use Rattle.reasons.specs.declared.Reason.the-variants.{NoRange, BadJournal, ZeroAmount, JournalFull, SerialsUsedUp, NoSerial, BadHotList, ListedCard}
+use Rattle.reasons.specs.declared.Reason.the-variants.{NoRange, BadJournal, ZeroAmount, JournalFull, SerialsUsedUp, NoSerial}
+use Rattle.reasons.specs.declared.Reason.the-variants.{BadHotList, ListedCard, BadDate, ExpiredCard}
 
 -- the first line is the text's front
 pub line-front : (s : List ℕ) → take (length (line 0 s)) s ≡ line 0 s
@@ -77,6 +78,8 @@ the-line SerialsUsedUp = (refl, refl)
 the-line NoSerial = (refl, refl)
 the-line BadHotList = (refl, refl)
 the-line ListedCard = (refl, refl)
+the-line BadDate = (refl, refl)
+the-line ExpiredCard = (refl, refl)
 
 -- what stands from the start of the reason's line up to its end
 pub the-phrase : (r : Reason) (t : List ℕ) (n from end : ℕ) → t ≡ linesOf inOrder → n ≡ numberOf r → line 0 (drop from t) ≡ line n t

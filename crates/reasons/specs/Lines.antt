@@ -8,7 +8,8 @@ use Rattle.reasons.specs.Reasons.{wordsOf}
 use Rattle.reasons.specs.declared.Reason.{Reason}
 use Rattle.reasons.specs.declared.Reason.the-variants.{ShortOutput, BadCount, BadByte, WrongCheck, UnknownCountry, WrongLayout, BadBitCount}
 use Rattle.reasons.specs.declared.Reason.the-variants.{NoStart, CutShort, WrongParity, LongTrack, WrongLrc, MarksAfter, BadTable}
-use Rattle.reasons.specs.declared.Reason.the-variants.{NoRange, BadJournal, ZeroAmount, JournalFull, SerialsUsedUp, NoSerial, BadHotList, ListedCard}
+use Rattle.reasons.specs.declared.Reason.the-variants.{NoRange, BadJournal, ZeroAmount, JournalFull, SerialsUsedUp, NoSerial}
+use Rattle.reasons.specs.declared.Reason.the-variants.{BadHotList, ListedCard, BadDate, ExpiredCard}
 
 -- line n of a text, the first being line 0; a line ends before a break, which is byte 10, or with the text
 unfoldable pub line : ℕ → List ℕ → List ℕ
@@ -27,5 +28,5 @@ inOrder =
     ∷ WrongLayout ∷ BadBitCount ∷ NoStart ∷ CutShort ∷ WrongParity
     ∷ LongTrack ∷ WrongLrc ∷ MarksAfter ∷ BadTable ∷ NoRange
     ∷ BadJournal ∷ ZeroAmount ∷ JournalFull ∷ SerialsUsedUp ∷ NoSerial
-    ∷ BadHotList ∷ ListedCard
+    ∷ BadHotList ∷ ListedCard ∷ BadDate ∷ ExpiredCard
     ∷ []

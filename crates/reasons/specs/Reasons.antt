@@ -9,7 +9,8 @@ use Rattle.text.specs.Numbers.{put}
 use Rattle.reasons.specs.declared.Reason.{Reason}
 use Rattle.reasons.specs.declared.Reason.the-variants.{ShortOutput, BadCount, BadByte, WrongCheck, UnknownCountry, WrongLayout, BadBitCount}
 use Rattle.reasons.specs.declared.Reason.the-variants.{NoStart, CutShort, WrongParity, LongTrack, WrongLrc, MarksAfter, BadTable}
-use Rattle.reasons.specs.declared.Reason.the-variants.{NoRange, BadJournal, ZeroAmount, JournalFull, SerialsUsedUp, NoSerial, BadHotList, ListedCard}
+use Rattle.reasons.specs.declared.Reason.the-variants.{NoRange, BadJournal, ZeroAmount, JournalFull, SerialsUsedUp, NoSerial}
+use Rattle.reasons.specs.declared.Reason.the-variants.{BadHotList, ListedCard, BadDate, ExpiredCard}
 use Rattle.reasons.specs.declared.Phrase.{Phrase}
 use Rattle.reasons.specs.declared.Tested.{Tested}
 use Rattle.reasons.specs.declared.Tested.the-variants.{Passes, Refused}
@@ -38,6 +39,8 @@ numberOf SerialsUsedUp = 19
 numberOf NoSerial = 20
 numberOf BadHotList = 21
 numberOf ListedCard = 22
+numberOf BadDate = 23
+numberOf ExpiredCard = 24
 
 -- and its words: document 01's, and from 21 on the house's, since document 02 has no table of them
 abbrev pub wordsOf : Reason → String
@@ -63,6 +66,8 @@ wordsOf SerialsUsedUp = "serials used up"
 wordsOf NoSerial = "serial not there"
 wordsOf BadHotList = "hot list not rising or too long, or PAN length or a number wrong"
 wordsOf ListedCard = "card on the hot list"
+wordsOf BadDate = "date outside 2000 to 2099, or no real day"
+wordsOf ExpiredCard = "card expired"
 
 -- w holds the text t: its length, and its bytes over 64 zeros
 abbrev pub Phrases : List ℕ → Phrase → Type 0

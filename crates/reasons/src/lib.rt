@@ -29,6 +29,8 @@ pub enum Reason {
     NoSerial,
     BadHotList,
     ListedCard,
+    BadDate,
+    ExpiredCard,
 }
 
 // What a test answers: that the text passes, or why it is refused.
@@ -64,6 +66,8 @@ pub fn number(r: Reason) -> u32
         Reason::NoSerial => 20,
         Reason::BadHotList => 21,
         Reason::ListedCard => 22,
+        Reason::BadDate => 23,
+        Reason::ExpiredCard => 24,
     }
 }
 
@@ -97,7 +101,7 @@ fn told(text: &[u8]) -> Phrase
 }
 
 // Those of reason n are line n, and line 0 is empty.
-fn table() -> [u8; 544]
+fn table() -> [u8; 599]
     ensures { λ r. ⌜ r ≡ linesOf inOrder ⌝ }
 {
     *b"
@@ -122,7 +126,9 @@ journal full
 serials used up
 serial not there
 hot list not rising or too long, or PAN length or a number wrong
-card on the hot list"
+card on the hot list
+date outside 2000 to 2099, or no real day
+card expired"
 }
 
 // Where line n begins; the text's end where there is none.

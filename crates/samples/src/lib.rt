@@ -1,4 +1,5 @@
-// Two cards as they are swiped, a table that takes them and a hot list that blocks none: what the worked cases share.
+// Two cards as they are swiped, a table that takes them, a hot list that blocks none and a day on which both are good: what the worked cases share.
+use dates::Date;
 
 // `;4111111111111111=2512101?` and its LRC, 135 bits.
 pub const W11: [u8; 17] = *b"\x8B\x84\x10\x42\x08\x21\x84\x10\x42\x08\xA1\x89\x1A\x44\x80\xE1\x23";
@@ -12,3 +13,10 @@ pub const EVERY: [u8; 16] = *b"\x00\x00\x00\x00\xFF\xFF\xFF\xFF\x07\x00\x0D\x13\
 
 // A hot list of no card.
 pub const NONE: [u64; 0] = [];
+
+// The first day of the month in which both cards expire.
+pub const DAY: Date = Date {
+    year: 2025,
+    month: 12,
+    day: 1,
+};

@@ -13,6 +13,8 @@ use Rattle.reasons.specs.Reasons.{Outcome, gives, refuses, andThen, after, numb
 use Rattle.reasons.specs.declared.Reason.{Reason}
 use Rattle.reasons.proofs.Laws.{passed, went-on, gives-refuses, refuses-one}
 use Rattle.pan.specs.Pan.{shown}
+use Rattle.dates.specs.declared.Date.{Date}
+use Rattle.dates.specs.declared.Left.{Left}
 use Rattle.slots.specs.Record.{record32}
 use Rattle.slots.specs.Views.{newest}
 use Rattle.slots.specs.declared.Newest.{Newest}
@@ -22,18 +24,23 @@ use Rattle.journal.specs.declared.Booked.{Booked}
 use Rattle.journal.specs.declared.Booked.the-variants as booked
 use Rattle.journal.proofs.Rule.{Fine, book-done}
 use Rattle.payer.specs.Payer.{room, Terms, Given, given, Payer, cardRule}
-use Rattle.swipe.specs.Swipe.{boxRule, readyRule, swipeRule, swipeAnswer, swipeBytes, swipeScratch, saidSwiped, Swipes}
+use Rattle.payer.proofs.Cards.{LeftOf, card-left}
+use Rattle.swipe.specs.Swipe.{boxRule, readyRule, swipeRule, Receipt, receipt, swipeAnswer, swipeBytes, swipeScratch}
+use Rattle.swipe.specs.Swipe.{saidSwiped, Swipes}
 use Rattle.layout.specs.declared.Track.{Track}
 use Rattle.layout.specs.declared.Track.the-variants.{Two, One}
 use Rattle.swipe.specs.declared.Swiped.{Swiped}
-use Rattle.swipe.specs.declared.Swiped.the-variants.{Serial, Refused}
+use Rattle.swipe.specs.declared.Swiped.the-variants.{Refused}
+use Rattle.swipe.specs.declared.Swiped.the-variants as swiping
 use Rattle.swipe.proofs.Steps.{card-fine, Open, opened, short-scratch, kept-short}
 
 -- what is said tells the answer
 pub swiped-one : (r q : Swiped) → saidSwiped r ≡ saidSwiped q → r ≡ q
-swiped-one (Serial a) (Serial b) e = cc
-swiped-one (Serial a) (Refused y) e = gives-refuses a (numberOf y) e
-swiped-one (Refused x) (Serial b) e = gives-refuses b (numberOf x) (sym e)
+swiped-one (swiping.Booked a c) (swiping.Booked b d) e =
+    let f : _≡_ {A = Receipt} (receipt a c) (receipt b d) = cc in
+    ap (λ (k : Receipt). swiping.Booked (k .serial) (k .left)) f
+swiped-one (swiping.Booked a c) (Refused y) e = gives-refuses (receipt a c) (numberOf y) e
+swiped-one (Refused x) (swiping.Booked b d) e = gives-refuses (receipt b d) (numberOf x) (sym e)
 swiped-one (Refused x) (Refused y) e = ap Refused (refuses-one x y e)
 
 -- a short scratch is refused and leaves the journal, whatever the journal's view
@@ -68,7 +75,7 @@ swipe-one g amount clock t j r q u v k l f h = by (decLe (room (g .track)) (leng
 pub record Passed (m : Newest) (g : Given) (amount space : ℕ) (j : List ℕ) (p : Payer) : Type 0 where
   pub scratch : room (g .track) ≤ space
   pub serial : ℕ
-  pub box : Open (g .terms) amount j m serial
+  pub box : Open (g .terms) amount (g .date) j m serial
   pub card : cardRule g ≡ gives p
 
 pub passed-all : (m : Newest) (g : Given) (amount space : ℕ) (j : List ℕ) (p : Payer) → swipeRule m g amount space j ≡ gives p → Passed m g amount space j p
@@ -76,7 +83,7 @@ unfolding swipeRule readyRule
 passed-all m g amount space j p e =
     let a = went-on (readyRule m g amount space j) _ p e in
     let s = passed (leb (room (g .track)) space) 1 _ (a .0) (a .1) in
-    record { scratch = leb-true _ _ (s .0); serial = a .0; box = opened (g .terms) amount j m (a .0) (s .1); card = a .2 }
+    record { scratch = leb-true _ _ (s .0); serial = a .0; box = opened (g .terms) amount (g .date) j m (a .0) (s .1); card = a .2 }
 
 -- where the tests pass nothing else refuses: the payment is booked under the next serial
 pub is-booked : (m : Newest) (g : Given) (amount space : ℕ) (j : List ℕ) (p : Payer) → swipeRule m g amount space j ≡ gives p
@@ -89,23 +96,33 @@ is-booked m g amount space j p e =
 
 -- a swipe as an answer of the journal's
 abbrev pub asBooked : Swiped → Booked
-asBooked (Serial s) = booked.Serial s
+asBooked (swiping.Booked s d) = booked.Serial s
 asBooked (Refused r) = booked.Refused r
 
-same-said : (r : Swiped) → saidBooked (asBooked r) ≡ saidSwiped r
-same-said (Serial s) = refl
+-- of what is answered the serial alone, which is the journal's own answer
+serialOf : Outcome Receipt → Outcome ℕ
+serialOf o = andThen o (λ b. gives (b .serial))
+
+same-said : (r : Swiped) → saidBooked (asBooked r) ≡ serialOf (saidSwiped r)
+unfolding serialOf
+same-said (swiping.Booked s d) = refl
 same-said (Refused r) = refl
 
+same-serial : (o : Outcome ℕ) (d : Left) → serialOf (andThen o (λ s. gives (receipt s d))) ≡ o
+unfolding serialOf
+same-serial (gives s) d = refl
+same-serial (refuses n) d = refl
+
 is-refused : (r : Swiped) (n : ℕ) → saidSwiped r ≡ refuses n → (x : Reason) × (r ≡ Refused x)
-is-refused (Serial s) n e = gives-refuses s n e
+is-refused (swiping.Booked s d) n e = gives-refuses (receipt s d) n e
 is-refused (Refused x) n e = (x, refl)
 
--- what a swipe comes to: it refuses and leaves the journal, or it is one booking of a payer who is told from the card alone
+-- what a swipe comes to: it refuses and leaves the journal, or it is one receipt of a payer who is told from the card alone
 pub data ComesTo (g : Given) (amount clock : ℕ) (j : List ℕ) (r : Swiped) (k : List ℕ) : Type 0 where
   refusal : (x : Reason) → r ≡ Refused x → k ≡ j → ComesTo g amount clock j r k
   one-booking : (p : Payer) → cardRule g ≡ gives p → Books j (p .pan) (p .label) amount clock (asBooked r) k → ComesTo g amount clock j r k
 
--- "A swipe refuses and leaves the journal, or it is exactly one booking whose PAN, label and amount depend on neither clock nor journal"
+-- "A swipe refuses and leaves the journal, or it is exactly one receipt whose PAN, label and amount depend on neither clock nor journal"
 pub swipe-comes-to : (g : Given) (amount clock : ℕ) (t j : List ℕ) (r : Swiped) (u k : List ℕ) → Swipes g amount clock t j r u k → ComesTo g amount clock j r k
 unfolding swipeAnswer swipeBytes
 swipe-comes-to g amount clock t j r u k f = by (swipeRule (f .view) g amount (length t) j) refl
@@ -116,7 +133,27 @@ swipe-comes-to g amount clock t j r u k f = by (swipeRule (f .view) g amount (le
         refusal (x .0) (x .1) (f .so .journal ∙ rw e)
     by (gives p) e =
         let a = passed-all (f .view) g amount (length t) j p e in
-        one-booking p (a .card) (record { view = f .view; is = f .is (a .scratch); so = (same-said r ∙ f .so .answer ∙ rw e, f .so .journal ∙ rw e) })
+        let serial : saidBooked (asBooked r) ≡ bookRule (f .view) j (p .pan) (p .label) amount =
+        same-said r ∙ ap serialOf (f .so .answer ∙ rw e) ∙ same-serial _ (p .left) in
+        one-booking p (a .card) (record { view = f .view; is = f .is (a .scratch); so = (serial, f .so .journal ∙ rw e) })
+
+-- a serial is answered only for a card that says who pays, and with it what that card has left
+pub swiped-card : (g : Given) (amount clock : ℕ) (t j : List ℕ) (s : ℕ) (d : Left) (u k : List ℕ) → Swipes g amount clock t j (swiping.Booked s d) u k
+    → (p : Payer) × (cardRule g ≡ gives p) × (d ≡ p .left)
+unfolding swipeAnswer
+swiped-card g amount clock t j s d u k f =
+    let says : Receipt = receipt s d in
+    let a = went-on (swipeRule (f .view) g amount (length t) j) _ says (sym (f .so .answer)) in
+    let b = went-on (bookRule (f .view) j (a .0 .pan) (a .0 .label) amount) _ says (a .2) in
+    let e : receipt (b .0) (a .0 .left) ≡ says = cc (b .2) in
+    (a .0, passed-all (f .view) g amount (length t) j (a .0) (a .1) .card, sym (ap (λ (x : Receipt). x .left) e))
+
+-- "A booked swipe also answers the days left": those that the card's own expiry leaves on the host's date
+pub left-answered : (g : Given) (amount clock : ℕ) (t j : List ℕ) (s : ℕ) (d : Left) (u k : List ℕ)
+    → Swipes g amount clock t j (swiping.Booked s d) u k → LeftOf g d
+left-answered g amount clock t j s d u k f =
+    let c = swiped-card g amount clock t j s d u k f in
+    subst⁻¹ (LeftOf g) (c .2) (card-left g (c .0) (c .1))
 
 -- of the journal's bytes a swipe's decision asks only whether all slots are held
 pub same-decision : (m : Newest) (g : Given) (amount space : ℕ) (j k : List ℕ) → full j ≡ full k → swipeRule m g amount space j ≡ swipeRule m g amount space k
@@ -175,12 +212,12 @@ alike (refuses n) j f p q e = refl
 
 -- no byte of the PAN stays anywhere but what the record shows: of two cards that pay, with PANs of one length, the same shown digits and one
 -- label, a swipe leaves the same journal; the scratch is cleared
-module _ (k : Track) (terms : Terms) (m : Newest) (amount space clock : ℕ) (j : List ℕ) (s t : List ℕ) (n o : ℕ) (p q : Payer) where
+module _ (k : Track) (terms : Terms) (a : Date) (m : Newest) (amount space clock : ℕ) (j : List ℕ) (s t : List ℕ) (n o : ℕ) (p q : Payer) where
   abbrev one : Given
-  one = given k s n terms
+  one = given k s n terms a
 
   abbrev other : Given
-  other = given k t o terms
+  other = given k t o terms a
 
   pub no-trace : cardRule one ≡ gives p → cardRule other ≡ gives q → length (p .pan) ≡ length (q .pan) → shown (p .pan) ≡ shown (q .pan) → p .label ≡ q .label
       → swipeBytes m one amount space clock j ≡ swipeBytes m other amount space clock j

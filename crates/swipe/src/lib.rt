@@ -1,4 +1,6 @@
 // One swipe, from the stripe to the journal.
+use dates::Date;
+use dates::Left;
 use layout::Track;
 use payer::Card;
 use payer::card_of_stripe;
@@ -21,17 +23,18 @@ pub enum Bookable {
     Refused(Reason),
 }
 
-// The journal, the tables, the hot list, the amount, the serials, and a slot that is not held.
+// The journal, the tables, the hot list, the amount, the date, the serials, and a slot that is not held.
 fn ready(
     site: &[u8],
     acquirer: &[u8],
     hot: &[u64],
     digits: u32,
     amount: u32,
+    date: Date,
     journal: &[u8],
 ) -> Bookable
     ensures { λ r. ⌜ Seen (now (journal .entry)) (λ m. saidBookable r ≡ boxRule m
-        (terms (now (site .entry)) (now (acquirer .entry)) (now (hot .entry)) digits) amount (now (journal .entry))) ⌝ }
+        (terms (now (site .entry)) (now (acquirer .entry)) (now (hot .entry)) digits) amount date (now (journal .entry))) ⌝ }
 {
     match slots::newest_of(journal) {
         Newest::Malformed => Bookable::Refused(Reason::BadJournal),
@@ -46,6 +49,9 @@ fn ready(
             if amount == 0 {
                 return Bookable::Refused(Reason::ZeroAmount);
             }
+            if !dates::inner::is_real(date) {
+                return Bookable::Refused(Reason::BadDate);
+            }
             if b == 4294967295 {
                 return Bookable::Refused(Reason::SerialsUsedUp);
             }
@@ -57,9 +63,9 @@ fn ready(
     }
 }
 
-// The serial that the payment was booked with.
+// The serial that the payment was booked with, and the days that the card has left.
 pub enum Swiped {
-    Serial(u32),
+    Booked(u32, Left),
     Refused(Reason),
 }
 
@@ -73,16 +79,17 @@ fn book_card(
     hot: &[u64],
     digits: u32,
     amount: u32,
+    date: Date,
     clock: u32,
     scratch: &mut [u8],
     journal: &mut [u8],
 ) -> Swiped
     requires { ⌜ room track ≤ length (now scratch) ⌝ }
     ensures { λ r. ⌜ Seen (now (journal .entry)) (λ m. Charges m (given track (now (stream .entry)) bits
-        (terms (now (site .entry)) (now (acquirer .entry)) (now (hot .entry)) digits)) amount clock (length (now (scratch .entry)))
+        (terms (now (site .entry)) (now (acquirer .entry)) (now (hot .entry)) digits) date) amount clock (length (now (scratch .entry)))
         (now (journal .entry)) r (now (journal .exit))) × (drop (room track) (now (scratch .exit)) ≡ drop (room track) (now (scratch .entry))) ⌝ }
 {
-    match ready(site, acquirer, hot, digits, amount, journal) {
+    match ready(site, acquirer, hot, digits, amount, date, journal) {
         Bookable::Refused(r) => Swiped::Refused(r),
         Bookable::After(b) => match card_of_stripe(
             track,
@@ -92,19 +99,15 @@ fn book_card(
             acquirer,
             hot,
             digits,
+            date,
             scratch,
         ) {
             Card::Refused(r) => Swiped::Refused(r),
-            Card::Pays(at, n, label) => {
+            Card::Pays(at, n, label, left) => {
                 let end = at + n;
-                Swiped::Serial(journal::inner::write_at(
-                    journal,
-                    b,
-                    &scratch[at..end],
-                    label,
-                    amount,
-                    clock,
-                ))
+                let pan = &scratch[at..end];
+                let serial = journal::inner::write_at(journal, b, pan, label, amount, clock);
+                Swiped::Booked(serial, left)
             }
         },
     }
@@ -119,7 +122,8 @@ fn clear(scratch: &mut [u8], n: usize)
     text::put_at(scratch, 0, &zeros[..n]);
 }
 
-// A swipe of a card's track: it refuses, or it books one payment and answers its serial. The scratch holds the card's characters in between.
+// A swipe of a card's track: it refuses, or it books one payment and answers its serial and what the card has left. The scratch holds the card's
+// characters in between.
 pub fn swipe(
     track: Track,
     stream: &[u8],
@@ -129,12 +133,13 @@ pub fn swipe(
     hot: &[u64],
     digits: u32,
     amount: u32,
+    date: Date,
     clock: u32,
     scratch: &mut [u8],
     journal: &mut [u8],
 ) -> Swiped
     ensures { λ r. ⌜ Swipes (given track (now (stream .entry)) bits
-        (terms (now (site .entry)) (now (acquirer .entry)) (now (hot .entry)) digits)) amount clock
+        (terms (now (site .entry)) (now (acquirer .entry)) (now (hot .entry)) digits) date) amount clock
         (now (scratch .entry)) (now (journal .entry)) r (now (scratch .exit)) (now (journal .exit)) ⌝ }
 {
     let n = room_of(track);
@@ -150,6 +155,7 @@ pub fn swipe(
         hot,
         digits,
         amount,
+        date,
         clock,
         scratch,
         journal,

@@ -4,5 +4,5 @@ ghost use Rattle.version.specs.Version.{VersionIs};
 pub fn number() -> u32
     ensures { λ r. ⌜ VersionIs r ⌝ }
 {
-    6
+    7
 }

@@ -1,4 +1,4 @@
-// Shows document 01 and requests E1, E4, E6, E8 and E9: their cases and the outside vectors, one line a case, as `stdin` lists them; then the
+// Shows document 01 and requests E1, E4 and E6 to E9: their cases and the outside vectors, one line a case, as `stdin` lists them; then the
 // cases that no line can ask for.
 fn end(out: &mut [u8; 4096]) {
     waiting::flush(out);

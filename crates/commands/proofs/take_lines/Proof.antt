@@ -28,17 +28,26 @@ next-line-requires c κs = search needs
 take-line-requires : tie.Need-take-line-requires Inv-loop μ-loop
 take-line-requires c κs = search needs
 
-loop-less : tie.Need-loop-less Inv-loop μ-loop
-loop-less c = search needs
+-- what is left once a line was taken stands within the input
+within : (c : tie.After-next-line Inv-loop μ-loop) → c .next-line .result .end ≤ 65536
+within c = search needs
 
-loop-again : tie.Need-loop-again Inv-loop μ-loop
-loop-again c =
+-- at a turn's end: where its line was taken, and where it began
+abbrev heard : tie.After-slice-known2 Inv-loop μ-loop → tie.After-next-line Inv-loop μ-loop
+heard c =
     let call = c .before .before .before in
     let arguments = call .before .before .before in
     let not-ended = arguments .before .before .before .before in
-    let asking = not-ended .before .before .before in
-    let turn = asking .before .before .before in
-    (search needs, search needs, search (needs, turn .loop .inv .2))
+    not-ended .before
+
+abbrev began : tie.After-slice-known2 Inv-loop μ-loop → tie.In-loop Inv-loop μ-loop
+began c = heard c .before .before .before .before
+
+loop-less : tie.Need-loop-less Inv-loop μ-loop
+loop-less c = search (needs, began c .loop-test .taken)
+
+loop-again : tie.Need-loop-again Inv-loop μ-loop
+loop-again c = (search needs, within (heard c), search (needs, began c .before .loop .inv .2))
 
 same-length : tie.Need-same-length Inv-loop μ-loop
 same-length c = search needs

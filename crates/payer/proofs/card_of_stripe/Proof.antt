@@ -17,7 +17,7 @@ abbrev start : tie.After-read → tie.Start
 start c = c .before .before .before .before .before .before .before
 
 abbrev card : tie.After-read → Given
-card c = let a = start c .args in given (a .track) (a .stream .now) (a .bits) (terms (a .site .now) (a .acquirer .now) (a .hot .now) (a .digits))
+card c = let a = start c .args in given (a .track) (a .stream .now) (a .bits) (terms (a .site .now) (a .acquirer .now) (a .hot .now) (a .digits)) (a .date)
 
 -- the scratch before and after the reading
 abbrev scratch : tie.After-read → List ℕ

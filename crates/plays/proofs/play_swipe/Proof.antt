@@ -31,6 +31,9 @@ add-u32-at-3 c = search needs
 u32-at-requires-3 : tie.Need-u32-at-requires-3
 u32-at-requires-3 c κs = search needs
 
+date-at-requires : tie.Need-date-at-requires
+date-at-requires c κs = search needs
+
 add-swipe : tie.Need-add-swipe
 add-swipe c = search needs
 
@@ -76,10 +79,11 @@ same-length-2 c = search needs
 returns : tie.Need-returns
 returns c =
     let b = answered (c .before .before .before) in
-    let f = b .before .before .before .before in
+    let d = b .before .before .before .before in
+    let f = d .before in
     let s = start (f .before .before) in
     same-swipe _ _ _ _ _
-    (λ i. given (s .args .track) (stream-is (s .args .script .now) (s .args .at) i) (f .u32-at3 .ensures i) (lent s))
+    (λ i. given (s .args .track) (stream-is (s .args .script .now) (s .args .at) i) (f .u32-at3 .ensures i) (lent s) (d .date-at .ensures i))
     (f .before .before .u32-at .ensures) (f .before .u32-at2 .ensures)
     (swipe-refused-came _ _ _ (search needs) _ _ _ _ _ (b .swipe .ensures) _ _ (c .before .enum-told .given .1) (c .counted .ensures))
 
@@ -92,12 +96,13 @@ same-length-4 c = search needs
 returns-2 : tie.Need-returns-2
 returns-2 c =
     let b = answered (c .before .before .before) in
-    let f = b .before .before .before .before in
+    let d = b .before .before .before .before in
+    let f = d .before in
     let s = start (f .before .before) in
     same-swipe _ _ _ _ _
-    (λ i. given (s .args .track) (stream-is (s .args .script .now) (s .args .at) i) (f .u32-at3 .ensures i) (lent s))
+    (λ i. given (s .args .track) (stream-is (s .args .script .now) (s .args .at) i) (f .u32-at3 .ensures i) (lent s) (d .date-at .ensures i))
     (f .before .before .u32-at .ensures) (f .before .u32-at2 .ensures)
-    (swiped-came _ _ _ (search needs) _ _ _ _ _ (b .swipe .ensures) _ _ (c .before .enum-told2 .given .1) (c .counted2 .ensures))
+    (swiped-came _ _ _ (search needs) _ _ _ _ _ (b .swipe .ensures) _ _ _ (c .before .enum-told2 .given .1) (c .counted2 .ensures))
 
 pub play-swipe-spec : {M : Type 1} → statement M
 play-swipe-spec =
@@ -109,6 +114,7 @@ play-swipe-spec =
     u32-at-requires-2
     add-u32-at-3
     u32-at-requires-3
+    date-at-requires
     add-swipe
     add-swipe-2
     sub-swipe

@@ -11,7 +11,7 @@ use Rattle.slots.specs.Record.{record32}
 use Rattle.slots.specs.Journal.{slotsOf, place, NewestIs}
 use Rattle.slots.specs.declared.Newest.{Newest}
 use Rattle.slots.specs.declared.Newest.the-variants.{Is}
-use Rattle.payer.specs.Payer.{terms, Given, given, Payer, partOf, cardRule, saidCard, panEnd}
+use Rattle.payer.specs.Payer.{Terms, terms, Given, given, Payer, partOf, cardRule, saidCard, panEnd}
 use Rattle.swipe.specs.Swipe.{boxRule, saidBookable}
 use Rattle.payer.specs.declared.Card.{Card}
 use Rattle.payer.proofs.Cards.{part-is}
@@ -23,8 +23,11 @@ use Rattle.swipe.proofs.book_card.Tie as tie
 abbrev start : tie.After-ready → tie.Start
 start c = c .before .before .before .before .before .before .before .before
 
+abbrev lent : tie.After-ready → Terms
+lent c = let a = start c .args in terms (a .site .now) (a .acquirer .now) (a .hot .now) (a .digits)
+
 abbrev card : tie.After-ready → Given
-card c = let a = start c .args in given (a .track) (a .stream .now) (a .bits) (terms (a .site .now) (a .acquirer .now) (a .hot .now) (a .digits))
+card c = let a = start c .args in given (a .track) (a .stream .now) (a .bits) (lent c) (a .date)
 
 abbrev journal : tie.After-ready → List ℕ
 journal c = start c .args .journal .now
@@ -42,18 +45,18 @@ serial-fits c = omega arith
 -- the tests that the box passed
 passed-box : (c : tie.After-known-told2) →
     let a = start (box c) .args in
-    Open (terms (a .site .now) (a .acquirer .now) (a .hot .now) (a .digits)) (a .amount) (a .journal .now) (box c .ready .ensures .view) (serial c)
-passed-box c = opened _ _ _ _ _ (sym (box c .ready .ensures .so) ∙ ap saidBookable (c .before .b .given .1))
+    Open (lent (box c)) (a .amount) (a .date) (a .journal .now) (box c .ready .ensures .view) (serial c)
+passed-box c = opened _ _ _ _ _ _ (sym (box c .ready .ensures .so) ∙ ap saidBookable (c .before .b .given .1))
 
 formed : (c : tie.After-known-told2) → NewestIs (journal (box c)) (Is (serial c))
 formed c = subst (NewestIs (journal (box c))) (passed-box c .view) (box c .ready .ensures .is)
 
 passes : (c : tie.After-known-told2) →
     let a = start (box c) .args in
-    gives (serial c) ≡ boxRule (Is (serial c)) (terms (a .site .now) (a .acquirer .now) (a .hot .now) (a .digits)) (a .amount) (a .journal .now)
+    gives (serial c) ≡ boxRule (Is (serial c)) (lent (box c)) (a .amount) (a .date) (a .journal .now)
 passes c =
     let a = start (box c) .args in
-    let rule : Newest → Outcome ℕ = λ m. boxRule m (terms (a .site .now) (a .acquirer .now) (a .hot .now) (a .digits)) (a .amount) (a .journal .now) in
+    let rule : Newest → Outcome ℕ = λ m. boxRule m (lent (box c)) (a .amount) (a .date) (a .journal .now) in
     sym (ap saidBookable (c .before .b .given .1)) ∙ box c .ready .ensures .so ∙ ap rule (passed-box c .view)
 
 -- what the stripe said: the scratch it left, the payer where there is one
@@ -61,17 +64,22 @@ abbrev told : tie.After-card-of-stripe → tie.After-known-told2
 told c = c .before .before
 
 abbrev left : tie.After-card-of-stripe → List ℕ
-left c = c .card-of-stripe .last .1 .1 .1 .1 .1 .1 .1 .0
+left c = c .card-of-stripe .last .1 .1 .1 .1 .1 .1 .1 .1 .0
 
 -- its length is a number of the machine's
+scratch-fits : (s : tie.Start) → length (s .args .scratch .now) < 18446744073709551616
+scratch-fits s = omega arith
+
 left-fits : (c : tie.After-card-of-stripe) → length (left c) < 18446744073709551616
-left-fits c = omega arith
+left-fits c = omega (arith, scratch-fits (start (box (told c))))
 
 abbrev stripe : tie.After-known-told4 → tie.After-card-of-stripe
 stripe c = c .before .before .before .before .before
 
 abbrev payer : tie.After-known-told4 → Payer
-payer c = record { pan = partOf (left (stripe c)) (c .before .at .given .0 .0) (c .before .at .given .0 .1 .0); label = c .before .at .given .0 .1 .1 .0 }
+payer c =
+    let f = c .before .at .given .0 in
+    record { pan = partOf (left (stripe c)) (f .0) (f .1 .0); label = f .1 .1 .0; left = f .1 .1 .1 .0 }
 
 card-is : (c : tie.After-known-told4) → cardRule (card (box (told (stripe c)))) ≡ gives (payer c)
 card-is c = sym (stripe c .card-of-stripe .ensures .0) ∙ ap (λ (r : Card). saidCard r (left (stripe c))) (c .before .at .given .1)
@@ -95,7 +103,7 @@ enum-known-b : tie.Need-enum-known-b
 enum-known-b c = search needs
 
 card-of-stripe-requires : tie.Need-card-of-stripe-requires
-card-of-stripe-requires c κs = let t = c .before in (start (box t) .pre, passed-box t .sound)
+card-of-stripe-requires c κs = let t = c .before in (start (box t) .pre, passed-box t .sound, passed-box t .date-right)
 
 enum-known-r-2 : tie.Need-enum-known-r-2
 enum-known-r-2 c = search needs
@@ -106,14 +114,14 @@ enum-known-at c = search needs
 add-end : tie.Need-add-end
 add-end c = omega (arith, pan-in c, left-fits (stripe c))
 
-sub-write-at : tie.Need-sub-write-at
-sub-write-at c = search needs
+sub-pan : tie.Need-sub-pan
+sub-pan c = search needs
 
-part-write-at-start : tie.Need-part-write-at-start
-part-write-at-start c = search needs
+part-pan-start : tie.Need-part-pan-start
+part-pan-start c = search needs
 
-part-write-at-end : tie.Need-part-write-at-end
-part-write-at-end c = pan-in (c .before .before)
+part-pan-end : tie.Need-part-pan-end
+part-pan-end c = pan-in (c .before)
 
 write-at-requires : tie.Need-write-at-requires
 write-at-requires c κs =
@@ -175,9 +183,9 @@ book-card-spec =
     enum-known-r-2
     enum-known-at
     add-end
-    sub-write-at
-    part-write-at-start
-    part-write-at-end
+    sub-pan
+    part-pan-start
+    part-pan-end
     write-at-requires
     same-length
     returns
