@@ -96,8 +96,9 @@ module _ (t : Terms) (a : Date) (pan : List ℕ) (expiry : Optional) (l : panLen
       unfolding payerRule
       pays h = simp (luhn-passed e, f, g, h)
 
--- a PAN that pays passes, and is the PAN that was asked about
-pan-pays : (t : Terms) (a : Date) (pan : List ℕ) (x : Optional) (p : Payer) → payerRule t a pan x ≡ gives p → (passes pan ≡ true) × (p .pan ≡ pan)
+-- a PAN that pays passes, is the PAN that was asked about, and has left what its expiry says on the date
+pan-pays : (t : Terms) (a : Date) (pan : List ℕ) (x : Optional) (p : Payer) → payerRule t a pan x ≡ gives p
+    → (passes pan ≡ true) × (p .pan ≡ pan) × (leftRule a x ≡ gives (p .left))
 unfolding payerRule
 pan-pays t a pan x p e =
     let l = passed (passes pan) 4 _ p e in
@@ -105,18 +106,7 @@ pan-pays t a pan x p e =
     let d = went-on (leftRule a x) _ p (b .2) in
     let h = passed (not (listed (t .hot) (t .digits) pan)) 22 _ p (d .2) in
     let c : record { pan = pan; label = b .0; left = d .0 } ≡ p = cc (h .1) in
-    (l .0, sym (ap (λ (q : Payer). q .pan) c))
-
--- and what is left to it is what its expiry says on the date
-pan-left : (t : Terms) (a : Date) (pan : List ℕ) (x : Optional) (p : Payer) → payerRule t a pan x ≡ gives p → leftRule a x ≡ gives (p .left)
-unfolding payerRule
-pan-left t a pan x p e =
-    let l = passed (passes pan) 4 _ p e in
-    let b = went-on (labelRule (t .site) (t .acquirer) pan) _ p (l .1) in
-    let d = went-on (leftRule a x) _ p (b .2) in
-    let h = passed (not (listed (t .hot) (t .digits) pan)) 22 _ p (d .2) in
-    let c : record { pan = pan; label = b .0; left = d .0 } ≡ p = cc (h .1) in
-    d .1 ∙ ap (λ (q : Payer). gives (q .left)) c
+    (l .0, sym (ap (λ (q : Payer). q .pan) c), d .1 ∙ ap (λ (q : Payer). gives (q .left)) c)
 
 -- a card number that passes, as the journal asks of one that it books (`Fine` there)
 pub record Passing (pan : List ℕ) : Type 0 where
@@ -242,4 +232,4 @@ unfolding cardRule charsRule
 card-left g p e =
     let r = went-on (readRule (format (g .track)) (g .stream) (g .bits) (room (g .track))) _ p e in
     let c = went-on (divisionRule (g .track) (r .0 .chars)) _ p (r .2) in
-    record { read = r .0; was-read = r .1; stands = c .0; was-divided = c .1; says = pan-left (g .terms) (g .date) _ _ p (c .2) }
+    record { read = r .0; was-read = r .1; stands = c .0; was-divided = c .1; says = pan-pays (g .terms) (g .date) _ _ p (c .2) .2 }
