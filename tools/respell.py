@@ -1,7 +1,8 @@
 #!/usr/bin/env python3
 """Brings the names that this repository defines in specs/ and proofs/ to one spelling: words in snake case, types and facts in
-camel case; a dash only joins two names of definitions, as in 'length-stream'. It was run once, right after port.py, at the commit
-that docs/PORT.md names on its second line; the new names stand in the files since. Run at the top of the repository.
+camel case; a dash only joins two names of definitions, as in 'length-stream'. It ran right after port.py, at the commit that
+docs/PORT.md names on its second line, and once more a little later; the new names stand in the files since. Run at the top of
+the repository.
 
 Names of functions of src/, exported names, strings, inputs and outputs stay. It stops where two names would fall together."""
 import collections
@@ -30,13 +31,13 @@ def declared(text):
     """The names that a file declares at its top level: (name, whether it is a field or constructor)."""
     for m in re.finditer(r"^(?:abbrev |unfoldable )*(?:pub )?(?:data |record |ruleset )?([^\s(){}:;]+)(?: +[({][^\n]*?[)}])* *:(?= |$)", text, re.M):
         yield m.group(1), False
-    for m in re.finditer(r"^  (?:pub )?([^\s(){}:;]+(?:, [^\s(){}:;]+)*|[^\s(){}:;]+(?: [^\s(){}:;=]+)*) : ", text, re.M):
+    for m in re.finditer(r"^ +(?:pub )?([^\s(){}:;]+(?:, [^\s(){}:;]+)*|[^\s(){}:;]+(?: [^\s(){}:;=]+)*) *:(?= |$)", text, re.M):
         for name in re.split(r"[ ,]+", m.group(1)):
             yield name, True
 
 
 def is_goal(text, name):
-    return re.search(rf"^(?:abbrev )?(?:pub )?{re.escape(name)} : (?:tie\.|\{{M : Type 1\}} → statement)", text, re.M)
+    return re.search(rf"^(?:abbrev )?(?:pub )?{re.escape(name)} : (?:tie\.|goal\.|\{{M : Type 1\}} → statement)", text, re.M)
 
 
 def snake(word):
@@ -65,7 +66,7 @@ def names():
     for f in antt_files():
         text = open(f, encoding="utf-8").read()
         for name, member in declared(text):
-            if not TOKEN.fullmatch(name) or (f.endswith("/Proof.antt") and is_goal(text, name)):
+            if not TOKEN.fullmatch(name) or is_goal(text, name):
                 continue
             own[name] = own.get(name, False) or member
             if "/specs/" in f and not member and name[0].islower():
@@ -179,7 +180,7 @@ def main():
     files += [(f, ticked) for f in sorted(glob.glob("docs/**/*.md", recursive=True) + ["README.md", "CONTRIBUTING.md"])]
     for f, how in files:
         text = open(f, encoding="utf-8").read()
-        if f in LEMMAS:
+        if f in LEMMAS and LEMMAS[f] in new.values():
             text = re.sub(rf"(?<![\w'.-]){LEMMAS[f]}(?![\w'-])", LEMMAS[f] + "_lem", text)
         turned = how(text, new)
         if turned != open(f, encoding="utf-8").read():

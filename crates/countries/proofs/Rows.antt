@@ -48,13 +48,13 @@ module _ (rs : List Row) (x y i : ℕ) where
         let e : is_of x y (get_or rs i no_row) ≡ true = rw (eq-eqb (get_or (get_or rs i no_row).country 0 0) x p) (eq-eqb (get_or (get_or rs i no_row).country 1 0) y q) in
         rw (drop-cons rs i no_row h) (rw e refl, rw e refl)
 
-    passed-by : is_of x y (get_or rs i no_row) ≡ false → Onward
+    passed_by : is_of x y (get_or rs i no_row) ≡ false → Onward
     unfolding listed_in row_in
-    passed-by e = rw (drop-cons rs i no_row h, add-one) (rw e refl, rw e refl)
+    passed_by e = rw (drop-cons rs i no_row h, add-one) (rw e refl, rw e refl)
 
     pub other : (get_or (get_or rs i no_row).country 0 0 ≡ x → ⊥) ⊎ (get_or (get_or rs i no_row).country 1 0 ≡ y → ⊥) → Onward
-    other (inl p) = passed-by (rw (ne_eqb (get_or (get_or rs i no_row).country 0 0) x p))
-    other (inr q) = passed-by (rw (ne_eqb (get_or (get_or rs i no_row).country 1 0) y q) (and-false (eqb (get_or (get_or rs i no_row).country 0 0) x)))
+    other (inl p) = passed_by (rw (ne_eqb (get_or (get_or rs i no_row).country 0 0) x p))
+    other (inr q) = passed_by (rw (ne_eqb (get_or (get_or rs i no_row).country 1 0) y q) (and-false (eqb (get_or (get_or rs i no_row).country 0 0) x)))
 
   pub none : length rs ≤ i → (listed_in (drop i rs) x y ≡ false) × (row_in (drop i rs) x y ≡ no_row)
   unfolding listed_in row_in

@@ -1,4 +1,6 @@
 // The countries that have an IBAN: the table of their bodies, its search, and whether a body fits a row. For the crates above: all of it is inner.
+#![tactic(auto)]
+
 ghost use Rattle.std.specs.Prelude.{◌≡◌, map};
 ghost use Rattle.text.specs.Bytes.{every};
 ghost use Rattle.countries.specs.Countries.{table, kind_fits, listed_in, row_in};
@@ -50,7 +52,7 @@ fn table() -> [[u8; 8]; 34]
 }
 
 // Whether a country is listed, and its row: zeros where it is not.
-#[derive(Drop)]
+#[derive(Clone, Copy)]
 pub struct Found {
     pub known: bool,
     pub row: [u8; 8],

@@ -1,4 +1,6 @@
 // Creditor references (ISO 11649): testing a text, and making the check pair for a body.
+#![tactic(auto)]
+
 ghost use Rattle.std.specs.Prelude.{◌≡◌, ◌≤◌, length};
 ghost use Rattle.reasons.specs.Reasons.{said};
 ghost use Rattle.mod97.specs.Pair.{said_made};

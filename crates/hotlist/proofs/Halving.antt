@@ -41,8 +41,8 @@ module _ (s : List ℕ) (x : ℕ) where
 
   -- one look
   module _ (low high looks : ℕ) (b : Bracket s x low high looks) (h : low < high) where
-    pub look-left : looks < 14
-    look-left = by (ℕ_discrete looks 14)
+    pub look_left : looks < 14
+    look_left = by (ℕ_discrete looks 14)
       where
         by : Dec (looks ≡ 14) → looks < 14
         by (no n) = omega (arith, b.looked)
@@ -51,7 +51,7 @@ module _ (s : List ℕ) (x : ℕ) where
     -- half as many after it
     half : 2 ^ (14 - looks) ≡ 2 * 2 ^ (14 - (looks + 1))
     half =
-        let e : 14 - looks ≡ suc (14 - (looks + 1)) = omega (arith, look-left) in
+        let e : 14 - looks ≡ suc (14 - (looks + 1)) = omega (arith, look_left) in
         ap (λ (k : ℕ). 2 ^ k) e ∙ pow-suc 2 (14 - (looks + 1)) ∙ omega arith
 
     -- at a number between, with at most half of the rest on either side
@@ -63,7 +63,7 @@ module _ (s : List ℕ) (x : ℕ) where
             in_list = b.in_list;
             below = λ k n. lt_of_le_of_lt (rises_up_to s k middle r (omega arith) (omega (arith, b.in_list))) g;
             above = b.above;
-            looked = omega (arith, look-left);
+            looked = omega (arith, look_left);
             left = omega (arith, half, b.left);
           }
 
@@ -74,6 +74,6 @@ module _ (s : List ℕ) (x : ℕ) where
             in_list = omega (arith, b.in_list);
             below = b.below;
             above = λ k n o. lt_of_lt_of_le g (rises_up_to s middle k r n o);
-            looked = omega (arith, look-left);
+            looked = omega (arith, look_left);
             left = omega (arith, half, b.left);
           }

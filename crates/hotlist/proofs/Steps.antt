@@ -39,19 +39,19 @@ module _ (s : List ℕ) (n : ℕ) where
   too_long h = rw (lt-leb (length s) 8192 h)
 
   module _ (h : length s ≤ 8192) where
-    pub bad-length : pan_length n ≡ false → list_ok s n ≡ false
+    pub bad_length : pan_length n ≡ false → list_ok s n ≡ false
     unfolding list_ok
-    bad-length p = rw (le-leb (length s) 8192 h, p)
+    bad_length p = rw (le-leb (length s) 8192 h, p)
 
     module _ (p : pan_length n ≡ true) where
-      pub not-rising : rises s ≡ false → list_ok s n ≡ false
+      pub not_rising : rises s ≡ false → list_ok s n ≡ false
       unfolding list_ok
-      not-rising r = rw (le-leb (length s) 8192 h, p, r)
+      not_rising r = rw (le-leb (length s) 8192 h, p, r)
 
       module _ (r : rises s ≡ true) where
-        pub nothing-listed : length s ≡ 0 → list_ok s n ≡ true
+        pub nothing_listed : length s ≡ 0 → list_ok s n ≡ true
         unfolding list_ok
-        nothing-listed e = rw (le-leb (length s) 8192 h, p, r) (every_if (λ x. ltb x (10 ^ n)) s (λ i l. absurd (omega arith)))
+        nothing_listed e = rw (le-leb (length s) 8192 h, p, r) (every_if (λ x. ltb x (10 ^ n)) s (λ i l. absurd (omega arith)))
 
         pub by_last : (limit : ℕ) → limit ≡ 10 ^ n → 0 < length s → ltb (get_or s (length s - 1) 0) limit ≡ list_ok s n
         unfolding list_ok
@@ -87,9 +87,9 @@ module _ (s : List ℕ) (n : ℕ) (pan : List ℕ) where
     bad_count l = rw (t, l)
 
     module _ (l : pan_length (length pan) ≡ true) where
-      pub bad-byte : all_digits pan ≡ false → hot_rule s n pan ≡ refuses 3
+      pub bad_byte : all_digits pan ≡ false → hot_rule s n pan ≡ refuses 3
       unfolding hot_rule
-      bad-byte d = rw (t, l, d)
+      bad_byte d = rw (t, l, d)
 
       pub answered : all_digits pan ≡ true → (b : Bool) → listed s n pan ≡ b → hot_rule s n pan ≡ gives b
       unfolding hot_rule

@@ -58,7 +58,7 @@ pub fn list_ok(list: &[u64], digits: u32) -> bool
 }
 
 // What a search says: whether the number stands in the list, and how many numbers were looked at.
-#[derive(Drop)]
+#[derive(Clone, Copy)]
 pub struct Searched {
     pub found: bool,
     pub looks: u32,

@@ -1,4 +1,6 @@
 // The hot list: whether a card is blocked (request E8).
+#![tactic(auto)]
+
 pub mod inner;
 
 ghost use Rattle.std.specs.Prelude.{◌≡◌};
@@ -7,7 +9,7 @@ ghost use Rattle.hotlist.specs.Hotlist.{hot_rule, said_found};
 use reasons::Reason;
 
 // Whether the PAN is in the list, or why that isn't answered.
-#[derive(Drop)]
+#[derive(Clone, Copy)]
 pub enum Found {
     Listed,
     Unlisted,

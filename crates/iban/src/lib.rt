@@ -1,4 +1,6 @@
 // IBAN (ISO 13616): testing a text, and making the check pair for a country and a body.
+#![tactic(auto)]
+
 ghost use Rattle.std.specs.Prelude.{◌≡◌};
 ghost use Rattle.reasons.specs.Reasons.{said};
 ghost use Rattle.mod97.specs.Pair.{said_made};

@@ -245,14 +245,14 @@ apart_missed p q a m b e =
     let u = split_at p a (m ∷ (b ∷ q)) e in
     let v = split m (b ∷ q) u.rest in
     let w = split b q v.rest in
-    let n : (t : Bool) → not (not t) ≡ t = twice-not in
+    let n : (t : Bool) → not (not t) ≡ t = twice_not in
     part_missed p (a ∷ (m ∷ (b ∷ q))) (b ∷ (m ∷ (a ∷ q))) e refl
     (every_cons is_digit b (m ∷ (a ∷ q)) w.digit (every_cons is_digit m (a ∷ q) v.digit (every_cons is_digit a q u.digit w.rest)))
     (rw (n (not (even (length q)))) (omega arith))
   where
-    twice-not : (t : Bool) → not (not t) ≡ t
-    twice-not true = refl
-    twice-not false = refl
+    twice_not : (t : Bool) → not (not t) ≡ t
+    twice_not true = refl
+    twice_not false = refl
 
 -- ---- twins
 
@@ -330,16 +330,16 @@ twin_same {a} {b} {v} {w} m n z = go m.is n.is
     go (inr x) (inl y) = omega arith
     go (inr x) (inr y) = omega arith
 
-twin_same-weighed : (t : Bool) (a b : ℕ) → Three 0 a b → (weighed (not t) a + weighed t a) % 10 ≡ (weighed (not t) b + weighed t b) % 10
+twin_same_weighed : (t : Bool) (a b : ℕ) → Three 0 a b → (weighed (not t) a + weighed t a) % 10 ≡ (weighed (not t) b + weighed t b) % 10
 unfolding weighed
-twin_same-weighed false a b z = twin_same (doubles a) (doubles b) z
-twin_same-weighed true a b z = let e : (weighed true a + a) % 10 ≡ (weighed true b + b) % 10 = twin_same (doubles a) (doubles b) z in omega arith
+twin_same_weighed false a b z = twin_same (doubles a) (doubles b) z
+twin_same_weighed true a b z = let e : (weighed true a + a) % 10 ≡ (weighed true b + b) % 10 = twin_same (doubles a) (doubles b) z in omega arith
 
 -- those three pairs are not found, either way round
 pub twin_missed : (p q : List ℕ) (a b : ℕ) → Three 48 a b → (luhn_rule (p ++ (a ∷ (a ∷ q))) ≡ gives tt) ↔ (luhn_rule (p ++ (b ∷ (b ∷ q))) ≡ gives tt)
 unfolding luhn_sum even is_digit
 twin_missed p q a b h =
-    let m : luhn_sum (a ∷ (a ∷ q)) % 10 ≡ luhn_sum (b ∷ (b ∷ q)) % 10 = omega (arith, twin_same-weighed (even (suc (length q))) (a - 48) (b - 48) (omega (arith, h))) in
+    let m : luhn_sum (a ∷ (a ∷ q)) % 10 ≡ luhn_sum (b ∷ (b ∷ q)) % 10 = omega (arith, twin_same_weighed (even (suc (length q))) (a - 48) (b - 48) (omega (arith, h))) in
     (there a b (inside 48 57 b (omega (arith, h)) (omega (arith, h))) m, there b a (inside 48 57 a (omega (arith, h)) (omega (arith, h))) (sym m))
   where
     there : (x y : ℕ) → is_digit y ≡ true → luhn_sum (x ∷ (x ∷ q)) % 10 ≡ luhn_sum (y ∷ (y ∷ q)) % 10 → luhn_rule (p ++ (x ∷ (x ∷ q))) ≡ gives tt → luhn_rule (p ++ (y ∷ (y ∷ q))) ≡ gives tt

@@ -1,4 +1,6 @@
 // The Luhn check digit (ISO/IEC 7812-1): testing a text, and making the digit for a body.
+#![tactic(auto)]
+
 ghost use Rattle.std.specs.Prelude.{◌≡◌, ◌≤◌};
 ghost use Rattle.reasons.specs.Reasons.{said};
 ghost use Rattle.luhn.specs.Luhn.{weighed, said_made, luhn_rule, make_rule};
@@ -7,14 +9,14 @@ ghost use Rattle.luhn.specs.Sum.{said_sum, sum_rule};
 use reasons::{Reason, Tested};
 
 // What making answers: the check digit's byte, or why there is none.
-#[derive(Drop)]
+#[derive(Clone, Copy)]
 pub enum Made {
     Digit(u8),
     Refused(Reason),
 }
 
 // The sum of a text of digits, or why it has none.
-#[derive(Drop)]
+#[derive(Clone, Copy)]
 enum Summed {
     Sum(u32),
     Refused(Reason),

@@ -55,15 +55,15 @@ module _ {A : Type 0} (a : Answers) (next : Outcome A) where
   count_refused n = simp n
 
   module _ (p : a.count ≡ true) where
-    pub byte-refused : a.bytes ≡ false → refuses 3 ≡ asked a next
-    byte-refused n = simp (p, n)
+    pub byte_refused : a.bytes ≡ false → refuses 3 ≡ asked a next
+    byte_refused n = simp (p, n)
 
     module _ (q : a.bytes ≡ true) where
-      pub country-refused : a.country ≡ false → refuses 5 ≡ asked a next
-      country-refused n = simp (p, q, n)
+      pub country_refused : a.country ≡ false → refuses 5 ≡ asked a next
+      country_refused n = simp (p, q, n)
 
-      pub layout-refused : a.country ≡ true → a.layout ≡ false → refuses 6 ≡ asked a next
-      layout-refused r n = simp (p, q, r, n)
+      pub layout_refused : a.country ≡ true → a.layout ≡ false → refuses 6 ≡ asked a next
+      layout_refused r n = simp (p, q, r, n)
 
 -- ---- testing
 

@@ -115,14 +115,14 @@ module _ (pan out : List ℕ) where
   bad_count a = (simp a, simp a)
 
   module _ (a : pan_length (length pan) ≡ true) where
-    pub bad-byte : all_digits pan ≡ false → Masks pan out (Refused BadByte) out
+    pub bad_byte : all_digits pan ≡ false → Masks pan out (Refused BadByte) out
     unfolding mask_rule mask_bytes
-    bad-byte b = (simp (a, b), simp (a, b))
+    bad_byte b = (simp (a, b), simp (a, b))
 
     module _ (b : all_digits pan ≡ true) where
-      pub short-output : length out < length pan → Masks pan out (Refused ShortOutput) out
+      pub short_output : length out < length pan → Masks pan out (Refused ShortOutput) out
       unfolding mask_rule mask_bytes
-      short-output l = let t = lt-leb _ _ l in (simp (a, b, t), simp (a, b, t))
+      short_output l = let t = lt-leb _ _ l in (simp (a, b, t), simp (a, b, t))
 
       pub passes : length pan ≤ length out → Masks pan out Passes (put out 0 (masked pan))
       unfolding mask_rule mask_bytes

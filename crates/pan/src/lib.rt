@@ -1,4 +1,6 @@
 // Card numbers of 13 to 19 digits, and their masked text.
+#![tactic(auto)]
+
 ghost use Rattle.std.specs.Prelude.{◌≡◌, true, ◌++◌, ◌≤◌, length, drop, replicate};
 ghost use Rattle.text.specs.Numbers.{put};
 ghost use Rattle.pan.specs.Pan.{pan_length, front_shown, back_shown, masked, Masks};

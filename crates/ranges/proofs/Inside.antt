@@ -14,7 +14,7 @@ use Rattle.reasons.proofs.Laws.{passed, gives_refuses}
 use Rattle.pan.specs.Pan.{pan_length}
 use Rattle.ranges.specs.Ranges.{table_ok, prefix_of, choice, Place, in_site, in_acquirer, place_rule, range_rule}
 use Rattle.ranges.specs.Ranges.{LooksUp, of_site, of_acquirer, nothing}
-use Rattle.ranges.proofs.Steps.{at_site, at-acquirer, no-range}
+use Rattle.ranges.proofs.Steps.{at_site, at_acquirer, no_range}
 use Rattle.ranges.proofs.Narrowest.{IsNarrowest, NoneFits, chosen_narrowest, chosen_none}
 
 -- a place lies inside the tables: m bytes of the site's, n of the acquirer's
@@ -44,9 +44,9 @@ module _ (site acquirer pan : List ℕ) where
       let q = given (in_site at) w (sym (at_site site acquirer pan at e) ∙ g) in
       subst (Answer site acquirer _ _) q (the_site's (chosen_narrowest site _ _ at e))
   by_choices none (some at) e f w g =
-      let q = given (in_acquirer at) w (sym (at-acquirer site acquirer pan e at f) ∙ g) in
+      let q = given (in_acquirer at) w (sym (at_acquirer site acquirer pan e at f) ∙ g) in
       subst (Answer site acquirer _ _) q (the_acquirer's (chosen_none site _ _ e) (chosen_narrowest acquirer _ _ at f))
-  by_choices none none e f w g = gives_refuses w 15 (sym g ∙ no-range site acquirer pan e f)
+  by_choices none none e f w g = gives_refuses w 15 (sym g ∙ no_range site acquirer pan e f)
 
   -- "Look-up must answer the fitting record with the smallest high less low"
   pub place_narrowest : (w : Place) → place_rule site acquirer pan ≡ gives w → Answer site acquirer (prefix_of pan) (length pan) w

@@ -21,7 +21,7 @@ use Rattle.ranges.specs.declared.Found.TheVariants.{Site, Acquirer, Refused}
 use Rattle.ranges.specs.Ranges.{table_ok, low, high, prefix_of, fits, width, best_of, choice}
 use Rattle.ranges.specs.Ranges.{Place, in_site, in_acquirer, place_rule, range_rule, label_at, label_rule}
 use Rattle.ranges.specs.Ranges.{said_found, LooksUp, of_site, of_acquirer, nothing}
-use Rattle.ranges.proofs.Steps.{below, above, at_site, at-acquirer, no-range, label_given, label_refused}
+use Rattle.ranges.proofs.Steps.{below, above, at_site, at_acquirer, no_range, label_given, label_refused}
 use Rattle.ranges.proofs.Narrowest.{IsNarrowest, NoneFits, both_ways, chosen_narrowest, chosen_none}
 use Rattle.ranges.proofs.Inside.{given, Answer, the_site's, the_acquirer's, place_narrowest, range_place}
 
@@ -118,7 +118,7 @@ module _ (site acquirer pan : List ℕ) where
   pub narrowest_placed : {w : Place} → Answer site acquirer (prefix_of pan) (length pan) w → place_rule site acquirer pan ≡ gives w
   narrowest_placed (the_site's {at = at} f) = at_site site acquirer pan at (narrowest_chosen site _ _ at f)
   narrowest_placed (the_acquirer's {at = at} g f) =
-      at-acquirer site acquirer pan (none_chosen site _ _ g) at (narrowest_chosen acquirer _ _ at f)
+      at_acquirer site acquirer pan (none_chosen site _ _ g) at (narrowest_chosen acquirer _ _ at f)
 
   -- "The swipe's label follows the new rule": it is the label of that record
   pub label_follows : (l : ℕ) → label_rule site acquirer pan ≡ gives l
@@ -139,14 +139,14 @@ module _ (site acquirer pan : List ℕ) where
   neither : (a b : Option ℕ) → choice site (prefix_of pan) (length pan) ≡ a → choice acquirer (prefix_of pan) (length pan) ≡ b → (n : ℕ)
       → place_rule site acquirer pan ≡ refuses n → (n ≡ 15) × NoRange
   neither (some at) b e f n g = gives_refuses (in_site at) n (sym (at_site site acquirer pan at e) ∙ g)
-  neither none (some at) e f n g = gives_refuses (in_acquirer at) n (sym (at-acquirer site acquirer pan e at f) ∙ g)
+  neither none (some at) e f n g = gives_refuses (in_acquirer at) n (sym (at_acquirer site acquirer pan e at f) ∙ g)
   neither none none e f n g =
-      (sym (refused_number 15 n (sym (no-range site acquirer pan e f) ∙ g)), (chosen_none site _ _ e, chosen_none acquirer _ _ f))
+      (sym (refused_number 15 n (sym (no_range site acquirer pan e f) ∙ g)), (chosen_none site _ _ e, chosen_none acquirer _ _ f))
 
   pub place_refuses : (n : ℕ) → (place_rule site acquirer pan ≡ refuses n) ↔ ((n ≡ 15) × NoRange)
   place_refuses n = (
     neither (choice site _ _) (choice acquirer _ _) refl refl n,
-    λ h. rw h.0 (no-range site acquirer pan (none_chosen site _ _ h.1.0) (none_chosen acquirer _ _ h.1.1)),
+    λ h. rw h.0 (no_range site acquirer pan (none_chosen site _ _ h.1.0) (none_chosen acquirer _ _ h.1.1)),
   )
 
   -- "Order: 14 (site, then acquirer), 2, 3, 15"
@@ -193,6 +193,6 @@ unfolding table_ok
 one_record_more t h = simp h
 
 -- of a PAN the look-up takes its first eight digits and its length
-pub eight_and-length : (site acquirer a b : List ℕ) → take 8 a ≡ take 8 b → length a ≡ length b → place_rule site acquirer a ≡ place_rule site acquirer b
+pub eight_and_length : (site acquirer a b : List ℕ) → take 8 a ≡ take 8 b → length a ≡ length b → place_rule site acquirer a ≡ place_rule site acquirer b
 unfolding place_rule
-eight_and-length site acquirer a b e l = rw (e, l)
+eight_and_length site acquirer a b e l = rw (e, l)

@@ -78,9 +78,9 @@ module _ (site acquirer pan : List ℕ) where
     bad_count l = let b = both_true (table_ok site) (table_ok acquirer) t in simp (b.0, b.1, l)
 
     module _ (l : pan_length (length pan) ≡ true) where
-      pub bad-byte : all_digits pan ≡ false → range_rule site acquirer pan ≡ refuses 3
+      pub bad_byte : all_digits pan ≡ false → range_rule site acquirer pan ≡ refuses 3
       unfolding range_rule
-      bad-byte d = let b = both_true (table_ok site) (table_ok acquirer) t in simp (b.0, b.1, l, d)
+      bad_byte d = let b = both_true (table_ok site) (table_ok acquirer) t in simp (b.0, b.1, l, d)
 
       pub tested : all_digits pan ≡ true → range_rule site acquirer pan ≡ place_rule site acquirer pan
       unfolding range_rule
@@ -93,13 +93,13 @@ module _ (site acquirer pan : List ℕ) where
   at_site at e = rw e
 
   module _ (e : choice site (prefix_of pan) (length pan) ≡ none) where
-    pub at-acquirer : (at : ℕ) → choice acquirer (prefix_of pan) (length pan) ≡ some at → place_rule site acquirer pan ≡ gives (in_acquirer at)
+    pub at_acquirer : (at : ℕ) → choice acquirer (prefix_of pan) (length pan) ≡ some at → place_rule site acquirer pan ≡ gives (in_acquirer at)
     unfolding place_rule
-    at-acquirer at f = rw (e, f)
+    at_acquirer at f = rw (e, f)
 
-    pub no-range : choice acquirer (prefix_of pan) (length pan) ≡ none → place_rule site acquirer pan ≡ refuses 15
+    pub no_range : choice acquirer (prefix_of pan) (length pan) ≡ none → place_rule site acquirer pan ≡ refuses 15
     unfolding place_rule
-    no-range f = rw (e, f)
+    no_range f = rw (e, f)
 
 -- the label of the record at the place
 module _ (site acquirer pan : List ℕ) where

@@ -62,7 +62,7 @@ fn width_at(t: &[u8], at: usize) -> u32
 }
 
 // Where the chosen record of a table begins.
-#[derive(Drop)]
+#[derive(Clone, Copy)]
 pub enum Chosen {
     At(usize),
     Nothing,
@@ -111,7 +111,7 @@ pub fn find_tested(site: &[u8], acquirer: &[u8], pan: &[u8]) -> Found
 }
 
 // The label of a PAN's record, or why there is none.
-#[derive(Drop)]
+#[derive(Clone, Copy)]
 pub enum Labelled {
     Label(u16),
     Refused(Reason),

@@ -1,4 +1,6 @@
 // The look-up of a card number in the site's range table, then in the acquirer's.
+#![tactic(auto)]
+
 pub mod inner;
 
 ghost use Rattle.std.specs.Prelude.{◌≡◌};
@@ -8,7 +10,7 @@ ghost use Rattle.ranges.specs.Ranges.{range_rule, said_found, LooksUp};
 use reasons::Reason;
 
 // The table that holds the record, and where in it the record begins.
-#[derive(Drop)]
+#[derive(Clone, Copy)]
 pub enum Found {
     Site(usize),
     Acquirer(usize),

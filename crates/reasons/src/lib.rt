@@ -1,10 +1,12 @@
 // The numbered reasons, 1 to 20 of document 01 and from 21 on of document 02, their numbers and words; what a test answers.
+#![tactic(auto)]
+
 ghost use Rattle.std.specs.Prelude.{◌≡◌, ◌+◌, ◌≤◌, length, drop};
 ghost use Rattle.text.specs.Bytes.{bytes_of};
 ghost use Rattle.reasons.specs.Reasons.{number_of, number_in, said, words_of, Phrases};
 ghost use Rattle.reasons.specs.Lines.{line, lines_of, in_order};
 
-#[derive(Drop)]
+#[derive(Clone, Copy)]
 pub enum Reason {
     ShortOutput,
     BadCount,
@@ -33,7 +35,7 @@ pub enum Reason {
 }
 
 // What a test answers: that the text passes, or why it is refused.
-#[derive(Drop)]
+#[derive(Clone, Copy)]
 pub enum Tested {
     Passes,
     Refused(Reason),
@@ -82,7 +84,7 @@ pub fn tested_number(t: Tested) -> u32
 }
 
 // A phrase for people: the first `len` bytes, and zeros behind them.
-#[derive(Drop)]
+#[derive(Clone, Copy)]
 pub struct Phrase {
     pub bytes: [u8; 64],
     pub len: usize,

@@ -1,4 +1,6 @@
 // Bytes of a text: digits and capitals, numbers in bytes and in digits. For the crates above: all of it is inner.
+#![tactic(auto)]
+
 ghost use Rattle.std.specs.Prelude.{◌≡◌, true, ◌+◌, ◌-◌, ◌≤◌, ◌<◌, length, get_or};
 ghost use Rattle.text.specs.Bytes.{is_digit, is_capital, all_digits};
 ghost use Rattle.text.specs.Numbers.{u16_at, u32_at, le16, le32, put, decimal};
