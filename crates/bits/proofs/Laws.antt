@@ -22,7 +22,7 @@ use Rattle.bits.specs.Ways.{plain}
 use Rattle.bits.specs.Flip.{flip_bit, Reverses}
 use Rattle.bits.specs.declared.Read.{Read}
 use Rattle.bits.specs.declared.Read.TheVariants.{Forward, Reversed, Refused}
-use Rattle.bits.proofs.Rules.{rule-reads}
+use Rattle.bits.proofs.Rules.{rule_reads}
 use Rattle.bits.proofs.Lengths.{either_length}
 use Rattle.bits.proofs.FlipBytes.{flipped_stream, reversed_stream}
 
@@ -122,5 +122,5 @@ pub reversal_in_bytes : (f : Format) (s t : List ℕ) (count n : ℕ) (out : Lis
 reversal_in_bytes f s t count n out m r l p q =
     let k = taken f s count n (forward_of out) p in
     let e = reversed_stream s t count r in
-    rule-reads f t count n k.room k.few l ∙ ap (read_either f) e
+    rule_reads f t count n k.room k.few l ∙ ap (read_either f) e
     ∙ reversal f (stream false s count) out m (reads_forward f (stream false s count) out k.reads) (ap (read_one f) (sym e) ∙ q)

@@ -78,17 +78,17 @@ module _ (f : Format) (s : List ℕ) (count n : ℕ) where
   output_short h = rw (lt-leb (f.limit - 2) n h)
 
   module _ (h : f.limit - 2 ≤ n) where
-    pub count-over : 4096 < count → read_rule f s count n ≡ refuses 7
+    pub count_over : 4096 < count → read_rule f s count n ≡ refuses 7
     unfolding read_rule
-    count-over k = rw (le-leb (f.limit - 2) n h, lt-leb count 4096 k)
+    count_over k = rw (le-leb (f.limit - 2) n h, lt-leb count 4096 k)
 
-    pub bytes-few : count ≤ 4096 → 8 * length s < count → read_rule f s count n ≡ refuses 7
+    pub bytes_few : count ≤ 4096 → 8 * length s < count → read_rule f s count n ≡ refuses 7
     unfolding read_rule
-    bytes-few k l = rw (le-leb (f.limit - 2) n h, le-leb count 4096 k, lt-leb count (8 * length s) l)
+    bytes_few k l = rw (le-leb (f.limit - 2) n h, le-leb count 4096 k, lt-leb count (8 * length s) l)
 
-    pub rule-reads : count ≤ 4096 → count ≤ 8 * length s → read_rule f s count n ≡ read_either f (stream false s count)
+    pub rule_reads : count ≤ 4096 → count ≤ 8 * length s → read_rule f s count n ≡ read_either f (stream false s count)
     unfolding read_rule
-    rule-reads k l = rw (le-leb (f.limit - 2) n h, le-leb count 4096 k, le-leb count (8 * length s) l)
+    rule_reads k l = rw (le-leb (f.limit - 2) n h, le-leb count 4096 k, le-leb count (8 * length s) l)
 
 -- what the call then says and leaves
 module _ (f : Format) (s : List ℕ) (count : ℕ) (out : List ℕ) where

@@ -66,8 +66,8 @@ module _ (h : Shape) (ok : Sound h) (v : Bool) (s : List ℕ) (c p : ℕ) (skipp
   start_cut k = by_test false (begins_short (true ∷ bits_of h.size h.start) (drop p (stream v s c)) (rw (left p, length-bits_of) (omega arith)))
 
   module _ (k : h.size < c - p) (x : ℕ) (e : x ≡ number (take h.size (drop (p + 1) (stream v s c)))) where
-    one-first : drop p (stream v s c) ≡ true ∷ drop (p + 1) (stream v s c)
-    one-first =
+    one_first : drop p (stream v s c) ≡ true ∷ drop (p + 1) (stream v s c)
+    one_first =
         let d : drop p (stream v s c) ≡ get_or (stream v s c) p false ∷ drop (p + 1) (stream v s c) =
         rw add-one (drop-cons (stream v s c) p false (rw length-stream (omega arith))) in
         let t : get_or (stream v s c) p false ≡ true = skip_true (stream v s c) _ _ (skipped ∙ d) in
@@ -75,7 +75,7 @@ module _ (h : Shape) (ok : Sound h) (v : Bool) (s : List ℕ) (c p : ℕ) (skipp
 
     rest : begins (true ∷ bits_of h.size h.start) (drop p (stream v s c)) ≡ begins (bits_of h.size h.start) (drop (p + 1) (stream v s c))
     unfolding begins
-    rest = rw one-first
+    rest = rw one_first
 
     start_is : number (bits_of h.size h.start) ≡ h.start
     start_is = number-bits_of h.size h.start ∙ mod-eq_of_lt ok.start_fits
@@ -86,14 +86,14 @@ module _ (h : Shape) (ok : Sound h) (v : Bool) (s : List ℕ) (c p : ℕ) (skipp
     after_first : number (take (length (bits_of h.size h.start)) (drop (p + 1) (stream v s c))) ≡ x
     after_first = rw length-bits_of (sym e)
 
-    pub start-other : (x ≡ h.start → ⊥) → refuses 8 ≡ read_one (format_of h) (stream v s c)
-    start-other o =
+    pub start_other : (x ≡ h.start → ⊥) → refuses 8 ≡ read_one (format_of h) (stream v s c)
+    start_other o =
         by_test false (rest ∙ begins_ne (bits_of h.size h.start) (drop (p + 1) (stream v s c)) long
         (λ q. o (sym after_first ∙ q ∙ start_is)))
 
-    pub start-found : x ≡ h.start
+    pub start_found : x ≡ h.start
         → body (letters_of h.size h.last h.base) (h.limit - 1) h.first [] (drop (p + 1 + h.size) (stream v s c))
         ≡ read_one (format_of h) (stream v s c)
-    start-found o =
+    start_found o =
         by_test true (rest ∙ begins_eq (bits_of h.size h.start) (drop (p + 1) (stream v s c)) long
         (after_first ∙ o ∙ sym (start_is)))

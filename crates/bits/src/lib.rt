@@ -1,4 +1,6 @@
 // Reading a track from the stream of bits, one way and either way round. For the crates above: all of it is inner.
+#![tactic(auto)]
+
 ghost use Rattle.std.specs.Prelude.{◌≡◌, false, cond, ◌+◌, ◌*◌, ◌≤◌, length, drop, eqb};
 ghost use Rattle.stream.specs.Stream.{stream};
 ghost use Rattle.reasons.specs.Reasons.{number_of};
@@ -64,7 +66,7 @@ fn blamed(forward: Reason, reversed: Reason) -> Reason
 }
 
 // A reading either way round: the count of the characters and the direction, or why both ways are refused.
-#[derive(Drop)]
+#[derive(Clone, Copy)]
 pub enum Read {
     Forward(usize),
     Reversed(usize),

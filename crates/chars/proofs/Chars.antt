@@ -83,10 +83,10 @@ module _ (d x : ℕ) (out : List ℕ) (s : List Bool) where
   close_refused n e = rw (← e)
 
   module _ (n : ℕ) (e : gives n ≡ next d s) where
-    pub close-wrong : (n ≡ x → ⊥) → refuses 12 ≡ finish d x out s
+    pub close_wrong : (n ≡ x → ⊥) → refuses 12 ≡ finish d x out s
     unfolding finish
-    close-wrong h = rw (← e, ne_eqb n x h)
+    close_wrong h = rw (← e, ne_eqb n x h)
 
-    pub close-right : (t : Bool) → n ≡ x → all_zero (drop (suc d) s) ≡ t → demand t 13 (gives out) ≡ finish d x out s
+    pub close_right : (t : Bool) → n ≡ x → all_zero (drop (suc d) s) ≡ t → demand t 13 (gives out) ≡ finish d x out s
     unfolding finish
-    close-right t h z = rw (← e, eq-eqb n x h, z)
+    close_right t h z = rw (← e, eq-eqb n x h, z)

@@ -48,12 +48,12 @@ module _ (v : Bool) (s : List ℕ) (c p : ℕ) where
     split : drop p (stream v s c) ≡ part (stream v s c) p n ++ drop (p + n) (stream v s c)
     split = sym (ap (λ (l : List Bool). part (stream v s c) p n ++ l) (sym (drop-drop n p (stream v s c))) ∙ take-append-drop n (drop p (stream v s c)))
 
-    pub skip-past : w ≡ 0 → skip (drop p (stream v s c)) ≡ skip (drop (p + n) (stream v s c))
-    skip-past e = ap skip split ∙ skips (part (stream v s c) p n) (drop (p + n) (stream v s c)) (sym is ∙ e)
+    pub skip_past : w ≡ 0 → skip (drop p (stream v s c)) ≡ skip (drop (p + n) (stream v s c))
+    skip_past e = ap skip split ∙ skips (part (stream v s c) p n) (drop (p + n) (stream v s c)) (sym is ∙ e)
 
-    pub skip-to : n ≤ 8 → (w ≡ 0 → ⊥)
+    pub skip_to : n ≤ 8 → (w ≡ 0 → ⊥)
         → (skip (drop p (stream v s c)) ≡ drop (p + count_trailing_zeros 8 w) (stream v s c)) × (p + count_trailing_zeros 8 w ≤ c)
-    skip-to h o =
+    skip_to h o =
         let l = length_part (stream v s c) p n (stream-fits v s c p n fits) in
         let t = first_in (part (stream v s c) p n) (drop (p + n) (stream v s c)) 8 (rw l h) (λ e. o (is ∙ e)) in
         let z : count_trailing_zeros 8 w ≡ count_trailing_zeros 8 (number (part (stream v s c) p n)) = ap (count_trailing_zeros 8) is in (

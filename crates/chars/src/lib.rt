@@ -1,4 +1,6 @@
 // The characters of a track, one by one, over their width: where they begin, what each is, and how they end. For the crates above: all of it is inner.
+#![tactic(auto)]
+
 ghost use Rattle.std.specs.Prelude.{◌≡◌, List, ℕ, ◌+◌, ◌*◌, ◌≤◌, ◌<◌, length, take, drop};
 ghost use Rattle.stream.specs.Stream.{stream, odd_ones};
 ghost use Rattle.reasons.specs.Reasons.{gives, and_then, said as tested};
@@ -15,7 +17,7 @@ fn is_odd(w: u8) -> bool
 }
 
 // The character at a place: its number, or why there is none.
-#[derive(Drop)]
+#[derive(Clone, Copy)]
 pub enum Char {
     Number(u8),
     Refused(Reason),
@@ -91,7 +93,7 @@ fn close(s: &[u8], count: usize, reversed: bool, at: usize, size: usize, x: u8) 
 // A track's shape. `size`: the data bits of a character; `start`: the start sentinel's bits after the first, which is a one, as a number;
 // `first`, `last`: the numbers of the start and the end sentinel; `base`: the byte of number 0; `limit`: the last character that may be
 // the end sentinel; `pairs`: whether two characters are read at a look, which those of four data bits can be.
-#[derive(Drop)]
+#[derive(Clone, Copy)]
 pub struct Shape {
     pub size: usize,
     pub start: u8,
@@ -103,7 +105,7 @@ pub struct Shape {
 }
 
 // What a reading one way found: so many characters, or why it is refused.
-#[derive(Drop)]
+#[derive(Clone, Copy)]
 pub enum Found {
     Chars(usize),
     Refused(Reason),
@@ -120,7 +122,7 @@ fn closed(t: Tested, len: usize) -> Found
 }
 
 // How far a reading has come: the place, the characters so far, and the exclusive or of their numbers and the start sentinel's.
-#[derive(Drop)]
+#[derive(Clone, Copy)]
 pub struct Begun {
     pub at: usize,
     pub len: usize,

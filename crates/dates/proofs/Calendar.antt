@@ -79,8 +79,8 @@ module _ (b : Bool) (m : ℕ) where
 
   -- and where no single number is met: 7 and 8, which the compiler joins to a range, or no month
   module _ (k : OneOf (1 ∷ 3 ∷ 5 ∷ 10 ∷ 12 ∷ []) m → ⊥) (l : OneOf (4 ∷ 6 ∷ 9 ∷ 11 ∷ []) m → ⊥) (f : m ≡ 2 → ⊥) where
-    from-seven : 1 ≤ m → 7 ≤ m
-    from-seven h =
+    from_seven : 1 ≤ m → 7 ≤ m
+    from_seven h =
         let n1 : m ≡ 1 → ⊥ = λ e. k (inl e) in
         let n3 : m ≡ 3 → ⊥ = λ e. k (inr (inl e)) in
         let n5 : m ≡ 5 → ⊥ = λ e. k (inr (inr (inl e))) in
@@ -88,16 +88,16 @@ module _ (b : Bool) (m : ℕ) where
         let n6 : m ≡ 6 → ⊥ = λ e. l (inr (inl e)) in
         omega arith
 
-    pub seven-eight : 1 ≤ m → m < 9 → 31 ≡ days_in b m
+    pub seven_eight : 1 ≤ m → m < 9 → 31 ≡ days_in b m
     unfolding days_in
-    seven-eight h g = which (ℕ_discrete m 7) (from-seven h)
+    seven_eight h g = which (ℕ_discrete m 7) (from_seven h)
       where
         which : Dec (m ≡ 7) → 7 ≤ m → 31 ≡ days_in b m
         which (yes e) s = rw e
         which (no ne) s = let e : m ≡ 8 = omega arith in rw e
 
-    pub no-month : 9 ≤ m → days_in b m ≡ 0
-    no-month h =
+    pub no_month : 9 ≤ m → days_in b m ≡ 0
+    no_month h =
         let n9 : m ≡ 9 → ⊥ = λ e. l (inr (inr (inl e))) in
         let n10 : m ≡ 10 → ⊥ = λ e. k (inr (inr (inr (inl e)))) in
         let n11 : m ≡ 11 → ⊥ = λ e. l (inr (inr (inr e))) in

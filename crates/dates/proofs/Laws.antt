@@ -151,22 +151,22 @@ data Order (a b : Date) : Type 0 where
   later : Earlier b a → Order a b
 
 order : (a b : Date) → Order a b
-order a b = by-years (ℕ_discrete a.year b.year) (dec_lt a.year b.year)
+order a b = by_years (ℕ_discrete a.year b.year) (dec_lt a.year b.year)
   where
-    by-days : a.year ≡ b.year → a.month ≡ b.month → Dec (a.day ≡ b.day) → Dec (a.day < b.day) → Order a b
-    by-days e f (yes g) l = same (λ j. date (e j) (f j) (g j))
-    by-days e f (no n) (yes l) = before (by_day e f l)
-    by-days e f (no n) (no l) = later (by_day (sym e) (sym f) (omega arith))
+    by_days : a.year ≡ b.year → a.month ≡ b.month → Dec (a.day ≡ b.day) → Dec (a.day < b.day) → Order a b
+    by_days e f (yes g) l = same (λ j. date (e j) (f j) (g j))
+    by_days e f (no n) (yes l) = before (by_day e f l)
+    by_days e f (no n) (no l) = later (by_day (sym e) (sym f) (omega arith))
 
-    by-months : a.year ≡ b.year → Dec (a.month ≡ b.month) → Dec (a.month < b.month) → Order a b
-    by-months e (yes f) l = by-days e f (ℕ_discrete a.day b.day) (dec_lt a.day b.day)
-    by-months e (no n) (yes l) = before (by_month e l)
-    by-months e (no n) (no l) = later (by_month (sym e) (omega arith))
+    by_months : a.year ≡ b.year → Dec (a.month ≡ b.month) → Dec (a.month < b.month) → Order a b
+    by_months e (yes f) l = by_days e f (ℕ_discrete a.day b.day) (dec_lt a.day b.day)
+    by_months e (no n) (yes l) = before (by_month e l)
+    by_months e (no n) (no l) = later (by_month (sym e) (omega arith))
 
-    by-years : Dec (a.year ≡ b.year) → Dec (a.year < b.year) → Order a b
-    by-years (yes e) l = by-months e (ℕ_discrete a.month b.month) (dec_lt a.month b.month)
-    by-years (no n) (yes l) = before (by_year l)
-    by-years (no n) (no l) = later (by_year (omega arith))
+    by_years : Dec (a.year ≡ b.year) → Dec (a.year < b.year) → Order a b
+    by_years (yes e) l = by_months e (ℕ_discrete a.month b.month) (dec_lt a.month b.month)
+    by_years (no n) (yes l) = before (by_year l)
+    by_years (no n) (no l) = later (by_year (omega arith))
 
 pub one_number : (a b : Date) → real a ≡ true → real b ≡ true → day_number a ≡ day_number b → a ≡ b
 one_number a b h g e = by (order a b)
@@ -180,15 +180,15 @@ one_number a b h g e = by (order a b)
 at_most_last : (a : Date) → real a ≡ true → day_number a ≤ 36524
 at_most_last a h = by (real_is a h) (order a (date 2099 12 31))
   where
-    none-later : RealDay a → Earlier (date 2099 12 31) a → ⊥
-    none-later r (by_year l) = omega (arith, r.to, l)
-    none-later r (by_month e l) = omega (arith, r.december, l)
-    none-later r (by_day e f l) = omega (arith, r.last, l, ap (days_in (leap a.year)) (sym f) ∙ december (leap a.year))
+    none_later : RealDay a → Earlier (date 2099 12 31) a → ⊥
+    none_later r (by_year l) = omega (arith, r.to, l)
+    none_later r (by_month e l) = omega (arith, r.december, l)
+    none_later r (by_day e f l) = omega (arith, r.last, l, ap (days_in (leap a.year)) (sym f) ∙ december (leap a.year))
 
     by : RealDay a → Order a (date 2099 12 31) → day_number a ≤ 36524
     by r (before e) = omega (arith, last_number, earlier_less a (date 2099 12 31) h last_there e)
     by r (same e) = omega (arith, last_number, ap day_number e)
-    by r (later e) = absurd (none-later r e)
+    by r (later e) = absurd (none_later r e)
 
 -- so it is the only count: whatever gives 1 January 2000 the number 0, and each next day the next number, gives every day of the century this one
 module _ (f : Date → ℕ) (from-0 : f (date 2000 1 1) ≡ 0) (by-1 : (a : Date) → real a ≡ true → real (next a) ≡ true → f (next a) ≡ suc (f a)) where

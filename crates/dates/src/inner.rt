@@ -79,7 +79,7 @@ fn last_day(expiry: &[u8]) -> Date
 }
 
 // The days that a card has left on a date, or that it has expired.
-#[derive(Drop)]
+#[derive(Clone, Copy)]
 pub enum Validity {
     Good(Left),
     Refused(Reason),

@@ -1,4 +1,6 @@
 // The host's date, and the days that a card has left on it.
+#![tactic(auto)]
+
 pub mod inner;
 
 ghost use Rattle.std.specs.Prelude.{◌≡◌};
@@ -8,7 +10,7 @@ ghost use Rattle.dates.specs.Dates.{date_rule};
 use reasons::{Reason, Tested};
 
 // A date as the host sends it: any three numbers.
-#[derive(Drop)]
+#[derive(Clone, Copy)]
 pub struct Date {
     pub year: u32,
     pub month: u32,
@@ -16,7 +18,7 @@ pub struct Date {
 }
 
 // What a good card has left on a date: so many days, to the last day of its expiry month; or no number, since it has no expiry.
-#[derive(Drop)]
+#[derive(Clone, Copy)]
 pub enum Left {
     Days(u32),
     NoExpiry,

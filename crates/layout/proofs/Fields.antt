@@ -56,18 +56,18 @@ module _ (t : List ℕ) where
   expiry_size h = rw (ne_eqb (length t) 4 h)
 
   module _ (h : length t ≡ 4) where
-    pub expiry-digits : all_digits t ≡ false → false ≡ is_expiry t
+    pub expiry_digits : all_digits t ≡ false → false ≡ is_expiry t
     unfolding is_expiry
-    expiry-digits d = rw (eq-eqb (length t) 4 h, d)
+    expiry_digits d = rw (eq-eqb (length t) 4 h, d)
 
-    month-is : decimal (drop 2 t) ≡ 10 * (get_or t 2 0 - 48) + (get_or t 3 0 - 48)
-    month-is =
+    month_is : decimal (drop 2 t) ≡ 10 * (get_or t 2 0 - 48) + (get_or t 3 0 - 48)
+    month_is =
         decimal_turn t 0 2 (omega arith) ∙ decimal_turn t (10 * 0 + (get_or t 2 0 - 48)) 3 (omega arith)
         ∙ decimal_end t (10 * (10 * 0 + (get_or t 2 0 - 48)) + (get_or t 3 0 - 48)) 4 (omega arith) ∙ omega arith
 
-    pub expiry-month : all_digits t ≡ true → (m : ℕ) (b : Bool) → m ≡ 10 * (get_or t 2 0 - 48) + (get_or t 3 0 - 48) → within 1 12 m ≡ b → b ≡ is_expiry t
+    pub expiry_month_lem : all_digits t ≡ true → (m : ℕ) (b : Bool) → m ≡ 10 * (get_or t 2 0 - 48) + (get_or t 3 0 - 48) → within 1 12 m ≡ b → b ≡ is_expiry t
     unfolding is_expiry
-    expiry-month d m b e w = rw (eq-eqb (length t) 4 h, d, month-is, ← e) (sym w)
+    expiry_month_lem d m b e w = rw (eq-eqb (length t) 4 h, d, month_is, ← e) (sym w)
 
   pub service_size : (length t ≡ 3 → ⊥) → false ≡ is_service t
   unfolding is_service

@@ -115,7 +115,7 @@ fn is_service(t: &[u8]) -> bool
 }
 
 // What stands where a field is due: the mark for none, the field, or neither.
-#[derive(Drop)]
+#[derive(Clone, Copy)]
 pub enum Due {
     Missing,
     Present,

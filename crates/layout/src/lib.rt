@@ -1,4 +1,6 @@
 // The characters between track 2's sentinels (ISO/IEC 7813), divided into PAN, expiry, service code and discretionary data.
+#![tactic(auto)]
+
 pub mod inner;
 
 ghost use Rattle.std.specs.Prelude.{◌≡◌, length};
@@ -9,21 +11,21 @@ use inner::{byte_at, cut, field_of, lead_of, with_expiry};
 use reasons::Reason;
 
 // The track that characters were read from.
-#[derive(Drop)]
+#[derive(Clone, Copy)]
 pub enum Track {
     Two,
     One,
 }
 
 // A field that may be absent: where it stands.
-#[derive(Drop)]
+#[derive(Clone, Copy)]
 pub enum Field {
     Absent,
     At(usize),
 }
 
 // The PAN's length, where expiry and service code stand, and where the discretionary data start; or why the text is refused.
-#[derive(Drop)]
+#[derive(Clone, Copy)]
 pub enum Division {
     Fields {
         pan: usize,

@@ -45,18 +45,18 @@ module _ (s : List ℕ) where
   -- ---- the name
 
   module _ (p n : ℕ) (is : n ≡ name_length s p) where
-    pub short-name : n < 2 → refuses 6 ≡ name_rule s p
+    pub short_name : n < 2 → refuses 6 ≡ name_rule s p
     unfolding name_rule
-    short-name h = rw (← is, under 2 26 n h)
+    short_name h = rw (← is, under 2 26 n h)
 
-    pub long-name : 26 < n → refuses 6 ≡ name_rule s p
+    pub long_name : 26 < n → refuses 6 ≡ name_rule s p
     unfolding name_rule
-    long-name h = rw (← is, over 2 26 n h)
+    long_name h = rw (← is, over 2 26 n h)
 
     module _ (h : 2 ≤ n) (l : n ≤ 26) where
-      pub open-name : (get_or s (p + n + 2) 0 ≡ 94 → ⊥) → refuses 6 ≡ name_rule s p
+      pub open_name : (get_or s (p + n + 2) 0 ≡ 94 → ⊥) → refuses 6 ≡ name_rule s p
       unfolding name_rule
-      open-name e = rw (← is, inside 2 26 n h l, ne_eqb (get_or s (p + n + 2) 0) 94 e)
+      open_name e = rw (← is, inside 2 26 n h l, ne_eqb (get_or s (p + n + 2) 0) 94 e)
 
       pub named : get_or s (p + n + 2) 0 ≡ 94 → fields_rule s p n ≡ name_rule s p
       unfolding name_rule

@@ -1,4 +1,6 @@
 // The characters between track 1's sentinels (ISO/IEC 7813), divided into PAN, name, expiry, service code and discretionary data.
+#![tactic(auto)]
+
 ghost use Rattle.std.specs.Prelude.{◌≡◌, ◌≤◌, length};
 ghost use Rattle.reasons.specs.Reasons.{number_in};
 ghost use Rattle.layout.specs.Layout.{CutOf};
@@ -9,7 +11,7 @@ use layout::{Field, Track};
 use reasons::Reason;
 
 // The lengths of PAN and name, where expiry and service code stand, and where the discretionary data start; or why the text is refused.
-#[derive(Drop)]
+#[derive(Clone, Copy)]
 pub enum Division {
     Fields {
         pan: usize,

@@ -1,4 +1,6 @@
 // Two characters of track 2 at a look: the table of ten bits (request E9), and the reading by it. For the crates above: all of it is inner.
+#![tactic(auto)]
+
 mod entries;
 
 ghost use Rattle.std.specs.Prelude.{◌≡◌, false, ◌+◌, ◌-◌, ◌*◌, ◌/◌, ◌%◌, ◌≤◌, ◌<◌, length, take, drop};

@@ -75,10 +75,10 @@ window_is s bytes k b o n h =
 
 -- of two bytes the second doesn't matter where the bits end in the first
 one_byte : (x y z o n : ℕ) → o + n ≤ 8 → (x + 256 * y) / 2 ^ o % 2 ^ n ≡ (x + 256 * z) / 2 ^ o % 2 ^ n
-one_byte x y z o n h = in-first y ∙ sym (in-first z)
+one_byte x y z o n h = in_first y ∙ sym (in_first z)
   where
-    in-first : (y : ℕ) → (x + 256 * y) / 2 ^ o % 2 ^ n ≡ x % 2 ^ (n + o) / 2 ^ o
-    in-first y =
+    in_first : (y : ℕ) → (x + 256 * y) / 2 ^ o % 2 ^ n ≡ x % 2 ^ (n + o) / 2 ^ o
+    in_first y =
         let e : n + o + (8 - (n + o)) ≡ 8 = omega arith in
         let p : 256 * y ≡ 2 ^ (n + o) * (2 ^ (8 - (n + o)) * y) =
         ap (λ (k : ℕ). 2 ^ k * y) (sym e) ∙ ap (λ (k : ℕ). k * y) (pow-add 2 (n + o) (8 - (n + o))) ∙ mul_assoc (2 ^ (n + o)) (2 ^ (8 - (n + o))) y in

@@ -1,4 +1,6 @@
 // The stream of bits of lent bytes, forward or reversed: some of its bits at once, as a number. For the crates above: all of it is inner.
+#![tactic(auto)]
+
 ghost use Rattle.std.specs.Prelude.{◌≡◌, reverse, ◌+◌, ◌*◌, ◌^◌, ◌≤◌, ◌<◌, length, take, drop};
 ghost use Rattle.stream.specs.Stream.{bits_from, stream, number, bits_of};
 

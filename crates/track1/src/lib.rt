@@ -1,4 +1,6 @@
 // Track 1 from bits: the seven-bit track read either way round into a lent output.
+#![tactic(auto)]
+
 ghost use Rattle.bits.specs.Reading.{Reads};
 ghost use Rattle.track1.specs.Track1.{track1};
 

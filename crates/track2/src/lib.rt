@@ -1,4 +1,6 @@
 // Track 2 from bits: the five-bit track read either way round into a lent output.
+#![tactic(auto)]
+
 ghost use Rattle.bits.specs.Reading.{Reads};
 ghost use Rattle.track2.specs.Track2.{track2};
 
