@@ -114,7 +114,7 @@ module _ (j k : List ℕ) (w : SameButClocks j k) where
   pub clock_show : (m : Newest) (s : ℕ) → show_rule m j s ≡ show_rule m k s
   unfolding show_rule held_in
   clock_show m s =
-      λ i. demand (formed m) 16 (demand (within (newest m - slots_same i + 1) (newest m) s && is_held (same-path i)) 20 (gives (place (slots_same i) s)))
+      λ i. demand (formed m) 16 (demand (within (newest m - slots_same i + 1) (newest m) s && is_held (same_path i)) 20 (gives (place (slots_same i) s)))
     where
-      same-path : state_of j (slots_of j) s ≡ state_of k (slots_of k) s
-      same-path = same_state j k w (slots_of j) s ∙ ap (λ (n : ℕ). state_of k n s) slots_same
+      same_path : state_of j (slots_of j) s ≡ state_of k (slots_of k) s
+      same_path = same_state j k w (slots_of j) s ∙ ap (λ (n : ℕ). state_of k n s) slots_same

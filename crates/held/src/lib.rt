@@ -1,4 +1,6 @@
 // What a journal holds: tell, and show of one record. Each call scans the journal once for its view and hands that to an inner call; no byte changes.
+#![tactic(auto)]
+
 use reasons::Reason;
 use slots::Newest;
 
@@ -7,21 +9,21 @@ pub mod inner;
 ghost use Rattle.held.specs.Rules.{TellsOf, Finds, ShowsOf, NumberOfShow};
 
 // Count and sum of the held records, the oldest held serial and the newest serial.
-#[derive(Drop)]
+#[derive(Clone, Copy)]
 pub enum Told {
     Held(u32, u64, u32, u32),
     Refused(Reason),
 }
 
 // Where the record begins.
-#[derive(Drop)]
+#[derive(Clone, Copy)]
 pub enum Shown {
     At(usize),
     Refused(Reason),
 }
 
 // What records come to: their count, the sum of their amounts, the serial of the first, 0 for none.
-#[derive(Drop)]
+#[derive(Clone, Copy)]
 pub struct Tallied {
     pub count: u32,
     pub sum: u64,

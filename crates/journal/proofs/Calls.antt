@@ -19,7 +19,7 @@ use Rattle.slots.specs.Journal.{place, Formed, NewestIs, slots_of}
 use Rattle.held.specs.Held.{low_of, held_after, held_up_to, held_list, sum_of}
 use Rattle.journal.specs.Rules.{full, book_rule, book_bytes, release_rule, release_bytes, freed_after, Tally, Books, Releases}
 use Rattle.journal.proofs.Rule.{Fine, same_after, new_after}
-use Rattle.journal.proofs.Lists.{book-held, after_length}
+use Rattle.journal.proofs.Lists.{book_held, after_length}
 use Rattle.journal.proofs.Freed.{release_held, all_length}
 use Rattle.journal.proofs.Kept.{book_formed, release_formed}
 use Rattle.slots.specs.declared.Newest.TheVariants.{Is}
@@ -93,7 +93,7 @@ book_changes j pan label amount clock b s k f fit small e w =
         let en : slots_of k ≡ n = slots_same j k el in
         let fk : Formed k n (b + 1) = subst⁻¹ (λ (l : List ℕ). Formed l n (b + 1)) q (book_formed j n b clock amount label pan f g.pan_fine g.some small (omega (arith, g.serials))) in
         let h : held_after k n (b + 1 - n) (b + 1 - (b + 1 - n)) ≡ held_list j b ++ (record32 (b + 1) clock amount label pan ∷ []) =
-        ap (λ (l : List ℕ). held_after l n (b + 1 - n) (b + 1 - (b + 1 - n))) q ∙ book-held j n b clock amount label pan f g.pan_fine.count g.room in
+        ap (λ (l : List ℕ). held_after l n (b + 1 - n) (b + 1 - (b + 1 - n))) q ∙ book_held j n b clock amount label pan f g.pan_fine.count g.room in
         record {
           serial = refl;
           fits = omega (arith, g.serials);

@@ -22,7 +22,7 @@ use Rattle.slots.specs.declared.Newest.TheVariants.{Malformed, Is}
 use Rattle.slots.proofs.Ranges.{differ}
 use Rattle.slots.proofs.States.{freed_released}
 use Rattle.slots.proofs.Ring.{place_in}
-use Rattle.slots.proofs.Records.{record-long, record_held}
+use Rattle.slots.proofs.Records.{record_long, record_held}
 use Rattle.slots.proofs.Clocks.{slot_state}
 use Rattle.held.specs.Held.{low_of, SameRecord}
 use Rattle.journal.specs.Rules.{held_slots, full, book_rule, book_bytes, Tally, release_rule, release_bytes, freed_at, freed_after}
@@ -111,7 +111,7 @@ clock_book_bytes j k w m is pan label amount c d = go (book_rule m j pan label a
         let long = g.pan_fine.count in
         subst (λ (n : ℕ). SameButClocks (put j (place (slots_of j) s) (record32 s c amount label pan)) (put k (place n s) (record32 s d amount label pan))) (slots_same j k w)
         (put_clock j k (record32 s c amount label pan) (record32 s d amount label pan) ((s - 1) % slots_of j) w
-        (omega (arith, f.size, place_in (slots_of j) s f.least)) (record-long s c amount label pan long) (record-long s d amount label pan long)
+        (omega (arith, f.size, place_in (slots_of j) s f.least)) (record_long s c amount label pan long) (record_long s d amount label pan long)
         (clock_record s c d amount label pan)
         (ap (λ (t : Bool). t || is_released (state_at (record32 s c amount label pan) 0)) (record_held s c amount label pan)))
 
@@ -136,12 +136,12 @@ freed_record x = go (is_held x) refl
 free_clock : (j k : List ℕ) (x : ℕ) → SameButClocks j k → SameButClocks (freed_at j (32 * x)) (freed_at k (32 * x))
 free_clock j k x w = record { size = freed_length j (32 * x) ∙ w.size ∙ sym (freed_length k (32 * x)); bytes = λ i c. byte i c (ℕ_discrete i (32 * x + 15)) (dec_lt (32 * x + 15) (length j)) }
   where
-    record-stays : (y : ℕ) → Dec (y ≡ x) → Dec (32 * x + 15 < length j) → is_record (state_at (freed_at j (32 * x)) (32 * y)) ≡ is_record (state_at j (32 * y))
-    record-stays y (no ne) d = ap is_record (freed_other j (32 * x) (32 * y + 15) (λ q. ne (omega arith)))
-    record-stays y (yes e) (yes l) =
+    record_stays : (y : ℕ) → Dec (y ≡ x) → Dec (32 * x + 15 < length j) → is_record (state_at (freed_at j (32 * x)) (32 * y)) ≡ is_record (state_at j (32 * y))
+    record_stays y (no ne) d = ap is_record (freed_other j (32 * x) (32 * y + 15) (λ q. ne (omega arith)))
+    record_stays y (yes e) (yes l) =
         subst (λ (z : ℕ). is_record (state_at (freed_at j (32 * x)) (32 * z)) ≡ is_record (state_at j (32 * z))) (sym e)
         (ap is_record (freed_here j (32 * x) l) ∙ freed_record (state_at j (32 * x)))
-    record-stays y (yes e) (no l) =
+    record_stays y (yes e) (no l) =
         ap is_record (get_or-eq_default (freed_at j (32 * x)) 0 (omega (arith, freed_length j (32 * x))) ∙ sym (get_or-eq_default j 0 (omega arith)))
 
     byte : (i : ℕ) → is_clock (freed_at j (32 * x)) i ≡ false → Dec (i ≡ 32 * x + 15) → Dec (32 * x + 15 < length j) → get_or (freed_at j (32 * x)) i 0 ≡ get_or (freed_at k (32 * x)) i 0
@@ -153,7 +153,7 @@ free_clock j k x w = record { size = freed_length j (32 * x) ∙ w.size ∙ sym 
         ∙ sym (get_or-eq_default (freed_at k (32 * x)) 0 (omega (arith, freed_length k (32 * x), w.size)))
     byte i c (no ne) d =
         freed_other j (32 * x) i ne
-        ∙ w.bytes i (sym (ap (λ (t : Bool). within 4 7 (i % 32) && t) (record-stays (i / 32) (ℕ_discrete (i / 32) x) d)) ∙ c)
+        ∙ w.bytes i (sym (ap (λ (t : Bool). within 4 7 (i % 32) && t) (record_stays (i / 32) (ℕ_discrete (i / 32) x) d)) ∙ c)
         ∙ sym (freed_other k (32 * x) i ne)
 
 after_clock : (j k : List ℕ) (n low m : ℕ) → SameButClocks j k → SameButClocks (freed_after j n low m) (freed_after k n low m)

@@ -22,7 +22,7 @@ use Rattle.slots.specs.declared.Newest.TheVariants.{Malformed, Is}
 use Rattle.slots.proofs.Ranges.{differ}
 use Rattle.slots.proofs.Ring.{kept_at, place_in}
 use Rattle.slots.proofs.Form.{serial_le}
-use Rattle.slots.proofs.Records.{record-long, u32_in}
+use Rattle.slots.proofs.Records.{record_long, u32_in}
 use Rattle.slots.proofs.Writes.{wrote-length, first_writes, outside, state_last, wrote_put}
 use Rattle.held.specs.Held.{low_of, record_at, held_after, held_list}
 use Rattle.journal.specs.Rules.{held_slots, book_rule, book_bytes, book_writes, Tally, release_rule, release_bytes, release_writes, freed_at, freed_after, free_writes}
@@ -182,7 +182,7 @@ module _ (j pan : List ℕ) (label amount clock : ℕ) (m : Newest) (is : Newest
       granted Malformed i q = gives_refuses s 16 (q ∙ sym (book_bad j pan label amount))
       granted (Is b) f q =
           let g = booking_of j pan label amount b s q in
-          wrote_put (record32 s clock amount label pan) (place (slots_of j) s) j (record-long s clock amount label pan g.pan_fine.count)
+          wrote_put (record32 s clock amount label pan) (place (slots_of j) s) j (record_long s clock amount label pan g.pan_fine.count)
           (omega (arith, f.size, place_in (slots_of j) s f.least))
 
   pub book_writes_lem : wrote j (book_writes m j pan label amount clock) ≡ book_bytes m j pan label amount clock

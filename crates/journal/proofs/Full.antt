@@ -54,8 +54,8 @@ module _ (j : List ℕ) (n b : ℕ) (f : Formed j n b) where
           let z : s < b - n + 1 = f.order s (b - n + 1) l m (omega arith) (omega arith) (good_released j (place n s) s (f.stands s l m) e) (oldest h) in
           absurd (omega arith)
 
-      at-kept : n ≤ b → (s : ℕ) × (b - n < s) × (s ≤ b) × ((s - 1) % n ≡ k) → is_held (state_at j (32 * k)) ≡ true
-      at-kept h w = subst (λ (m : ℕ). is_held (state_at j (32 * m)) ≡ true) w.3 (kept h w.0 w.1 w.2 (is_held (state_of j n w.0)) refl)
+      at_kept : n ≤ b → (s : ℕ) × (b - n < s) × (s ≤ b) × ((s - 1) % n ≡ k) → is_held (state_at j (32 * k)) ≡ true
+      at_kept h w = subst (λ (m : ℕ). is_held (state_at j (32 * m)) ≡ true) w.3 (kept h w.0 w.1 w.2 (is_held (state_of j n w.0)) refl)
 
       empty : b < n → is_held (state_at j (32 * k)) ≡ true
       empty h =
@@ -64,7 +64,7 @@ module _ (j : List ℕ) (n b : ℕ) (f : Formed j n b) where
           absurd (differ (is_held 0) free_not_held (ap is_held (sym (f.rest (32 * b + 15) (omega arith) (omega arith))) ∙ z))
 
       go : Dec (n ≤ b) → is_held (state_at j (32 * k)) ≡ true
-      go (yes h) = at-kept h (kept_at n b k hk (omega arith))
+      go (yes h) = at_kept h (kept_at n b k hk (omega arith))
       go (no h) = empty (omega arith)
 
   tells_full : (t : Bool) → is_held (state_at j (32 * (b % n))) ≡ t → t ≡ held_slots j n

@@ -13,7 +13,7 @@ use Rattle.slots.specs.Record.{is_held, is_released, length_fits, kept, length_a
 use Rattle.slots.specs.Journal.{place, state_of, Formed}
 use Rattle.slots.proofs.Ranges.{differ}
 use Rattle.slots.proofs.States.{not_both}
-use Rattle.slots.proofs.Records.{record_held, record-long, good_same, good_new}
+use Rattle.slots.proofs.Records.{record_held, record_long, good_same, good_new}
 use Rattle.journal.specs.Rules.{freed_after}
 use Rattle.journal.proofs.Rule.{Fine}
 use Rattle.journal.proofs.Lists.{fits, after_length, after_kept, after_state}
@@ -30,8 +30,8 @@ book_formed j n b clock amount label pan f p a c l =
       least = f.least;
       most = f.most;
       stands = λ s x y. stands_one s x y (dec_le s b);
-      rest = λ i x y. rest-one i x y;
-      order = λ s t x y z w r h. order-one s t x y z w r h (dec_le s b) (dec_le t b);
+      rest = λ i x y. rest_one i x y;
+      order = λ s t x y z w r h. order_one s t x y z w r h (dec_le s b) (dec_le t b);
     }
   where
     k : List ℕ
@@ -41,7 +41,7 @@ book_formed j n b clock amount label pan f p a c l =
     old = after_kept j n b clock amount label pan f p.count
 
     new : (i : ℕ) → i < 32 → get_or (put j (place n (b + 1)) (record32 (b + 1) clock amount label pan)) (place n (b + 1) + i) 0 ≡ get_or (record32 (b + 1) clock amount label pan) i 0
-    new i h = put_in j (record32 (b + 1) clock amount label pan) (place n (b + 1)) (fits j n b clock amount label pan f p.count) i (omega (arith, record-long (b + 1) clock amount label pan p.count))
+    new i h = put_in j (record32 (b + 1) clock amount label pan) (place n (b + 1)) (fits j n b clock amount label pan f p.count) i (omega (arith, record_long (b + 1) clock amount label pan p.count))
 
     stands_one : (s : ℕ) → b + 1 - n < s → s ≤ b + 1 → Dec (s ≤ b) → Good (put j (place n (b + 1)) (record32 (b + 1) clock amount label pan)) (place n s) s
     stands_one s x y (yes q) =
@@ -58,22 +58,22 @@ book_formed j n b clock amount label pan f p a c l =
         (λ i h _ _. let z : i ≡ 0 + i = omega arith in new i h ∙ ap (λ (m : ℕ). get_or (record32 (b + 1) clock amount label pan) m 0) z)
         (ap (λ (v : ℕ). is_held v || is_released v) st ∙ g.state) (ap kept st) (ap (λ (v : ℕ). length_fits v (length_at (record32 (b + 1) clock amount label pan) 0)) st) g)
 
-    rest-one : (i : ℕ) → 32 * (b + 1) ≤ i → i < length (put j (place n (b + 1)) (record32 (b + 1) clock amount label pan)) → get_or (put j (place n (b + 1)) (record32 (b + 1) clock amount label pan)) i 0 ≡ 0
-    rest-one i x y =
+    rest_one : (i : ℕ) → 32 * (b + 1) ≤ i → i < length (put j (place n (b + 1)) (record32 (b + 1) clock amount label pan)) → get_or (put j (place n (b + 1)) (record32 (b + 1) clock amount label pan)) i 0 ≡ 0
+    rest_one i x y =
         let z = f.size in
         let al = after_length j n b clock amount label pan f p.count in
         let u : b + 1 - 1 ≡ b = omega arith in
         let v : (b + 1 - 1) % n ≡ b = ap (λ (m : ℕ). m % n) u ∙ mod-eq_of_lt (omega arith) in
-        put_after j (record32 (b + 1) clock amount label pan) (place n (b + 1)) (fits j n b clock amount label pan f p.count) i (omega (arith, record-long (b + 1) clock amount label pan p.count))
+        put_after j (record32 (b + 1) clock amount label pan) (place n (b + 1)) (fits j n b clock amount label pan f p.count) i (omega (arith, record_long (b + 1) clock amount label pan p.count))
         ∙ f.rest i (omega arith) (omega arith)
 
-    order-one : (s t : ℕ) → b + 1 - n < s → s ≤ b + 1 → b + 1 - n < t → t ≤ b + 1
+    order_one : (s t : ℕ) → b + 1 - n < s → s ≤ b + 1 → b + 1 - n < t → t ≤ b + 1
         → is_released (state_of (put j (place n (b + 1)) (record32 (b + 1) clock amount label pan)) n s) ≡ true
         → is_held (state_of (put j (place n (b + 1)) (record32 (b + 1) clock amount label pan)) n t) ≡ true → Dec (s ≤ b) → Dec (t ≤ b) → s < t
-    order-one s t x y z w r h (yes q) (yes u) =
+    order_one s t x y z w r h (yes q) (yes u) =
         f.order s t (omega arith) q (omega arith) u (sym (ap is_released (old s 15 x q (omega arith))) ∙ r) (sym (ap is_held (old t 15 z u (omega arith))) ∙ h)
-    order-one s t x y z w r h (yes q) (no u) = omega arith
-    order-one s t x y z w r h (no q) d =
+    order_one s t x y z w r h (yes q) (no u) = omega arith
+    order_one s t x y z w r h (no q) d =
         let e : s ≡ b + 1 = omega arith in
         let st : is_held (state_of (put j (place n (b + 1)) (record32 (b + 1) clock amount label pan)) n (b + 1)) ≡ true =
         ap is_held (after_state j n b clock amount label pan f p.count) ∙ record_held (b + 1) clock amount label pan in
@@ -90,8 +90,8 @@ release_formed j n b m f h =
       least = f.least;
       most = f.most;
       stands = λ s x y. stands_one s x y (dec_le s (b - n + m));
-      rest = λ i x y. rest-one i x y;
-      order = λ s t x y z w r k. order-one s t x y z w r k (dec_le s (b - n + m)) (dec_le t (b - n + m));
+      rest = λ i x y. rest_one i x y;
+      order = λ s t x y z w r k. order_one s t x y z w r k (dec_le s (b - n + m)) (dec_le t (b - n + m));
     }
   where
     -- a byte that is no state byte
@@ -118,8 +118,8 @@ release_formed j n b m f h =
         good_same j (freed_after j n (b - n) m) (place n s) (place n s) s (λ i l ne _. plain s i x y l ne)
         (ap (λ (v : ℕ). is_held v || is_released v) o ∙ g.state) (ap kept o) (ap (λ (v : ℕ). length_fits v (length_at j (place n s))) o) g
 
-    rest-one : (i : ℕ) → 32 * b ≤ i → i < length (freed_after j n (b - n) m) → get_or (freed_after j n (b - n) m) i 0 ≡ 0
-    rest-one i x y =
+    rest_one : (i : ℕ) → 32 * b ≤ i → i < length (freed_after j n (b - n) m) → get_or (freed_after j n (b - n) m) i 0 ≡ 0
+    rest_one i x y =
         let z = f.size in
         let al = all_length j n (b - n) m in
         all_other j n (b - n) m i (λ t u v e.
@@ -128,10 +128,10 @@ release_formed j n b m f h =
         omega arith)
         ∙ f.rest i x (omega arith)
 
-    order-one : (s t : ℕ) → b - n < s → s ≤ b → b - n < t → t ≤ b → is_released (state_of (freed_after j n (b - n) m) n s) ≡ true
+    order_one : (s t : ℕ) → b - n < s → s ≤ b → b - n < t → t ≤ b → is_released (state_of (freed_after j n (b - n) m) n s) ≡ true
         → is_held (state_of (freed_after j n (b - n) m) n t) ≡ true → Dec (s ≤ b - n + m) → Dec (t ≤ b - n + m) → s < t
-    order-one s t x y z w r k d (yes u) =
+    order_one s t x y z w r k d (yes u) =
         absurd (differ (is_held (state_of (freed_after j n (b - n) m) n t)) (ap is_held (down t z u) ∙ freed_byte_lem (state_of j n t)) k)
-    order-one s t x y z w r k (yes q) (no u) = omega arith
-    order-one s t x y z w r k (no q) (no u) =
+    order_one s t x y z w r k (yes q) (no u) = omega arith
+    order_one s t x y z w r k (no q) (no u) =
         f.order s t x y z w (sym (ap is_released (up s y (omega arith))) ∙ r) (sym (ap is_held (up t w (omega arith))) ∙ k)

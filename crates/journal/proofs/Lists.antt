@@ -10,7 +10,7 @@ use lib.ListN.{length, get_or, take, drop, length-drop}
 use lib.Seq.{length-take-le, get_or-take, get_or-drop, ext_get_or}
 use Rattle.text.specs.Numbers.{put}
 use Rattle.pan.specs.Pan.{pan_length}
-use Rattle.slots.proofs.Records.{record-long, record_held}
+use Rattle.slots.proofs.Records.{record_long, record_held}
 use Rattle.slots.specs.Record.{record32, is_held, state_at}
 use Rattle.slots.specs.Journal.{place, state_of, Formed}
 use Rattle.text.proofs.Put.{put_in, put_before, put_after, length_put}
@@ -37,7 +37,7 @@ module _ (j : List ℕ) (n b clock amount label : ℕ) (pan : List ℕ) (f : For
   after = put j (place n (b + 1)) (record32 (b + 1) clock amount label pan)
 
   pub fits : place n (b + 1) + length rec ≤ length j
-  fits = omega (arith, place_in n (b + 1) f.least, record-long (b + 1) clock amount label pan long, f.size)
+  fits = omega (arith, place_in n (b + 1) f.least, record_long (b + 1) clock amount label pan long, f.size)
 
   pub after_length : length after ≡ length j
   after_length = length_put j rec (place n (b + 1)) fits
@@ -53,7 +53,7 @@ module _ (j : List ℕ) (n b clock amount label : ℕ) (pan : List ℕ) (f : For
       go (yes q) = put_before j rec (place n (b + 1)) fits (place n s + i) (omega arith)
       go (no q) =
           let w : place n s ≡ place n (b + 1) → ⊥ = apart in
-          put_after j rec (place n (b + 1)) fits (place n s + i) (omega (arith, record-long (b + 1) clock amount label pan long, past (no_lt q)))
+          put_after j rec (place n (b + 1)) fits (place n s + i) (omega (arith, record_long (b + 1) clock amount label pan long, past (no_lt q)))
         where
           no_lt : (place n s < place n (b + 1) → ⊥) → place n (b + 1) ≤ place n s
           no_lt q = omega arith
@@ -66,16 +66,16 @@ module _ (j : List ℕ) (n b clock amount label : ℕ) (pan : List ℕ) (f : For
               far (no y) = omega arith
 
   pub after_state : state_of after n (b + 1) ≡ state_at rec 0
-  after_state = put_in j rec (place n (b + 1)) fits 15 (omega (arith, record-long (b + 1) clock amount label pan long))
+  after_state = put_in j rec (place n (b + 1)) fits 15 (omega (arith, record_long (b + 1) clock amount label pan long))
 
   pub after_record : record_at after n (b + 1) ≡ rec
   unfolding record_at
-  after_record = ap (λ (m : ℕ). take m (drop (place n (b + 1)) after)) (sym (record-long (b + 1) clock amount label pan long)) ∙ part_put j rec (place n (b + 1)) fits
+  after_record = ap (λ (m : ℕ). take m (drop (place n (b + 1)) after)) (sym (record_long (b + 1) clock amount label pan long)) ∙ part_put j rec (place n (b + 1)) fits
 
   -- where a slot is not held, the oldest kept serial that makes way is not
   module _ (room : held_slots j n ≡ false) where
-    makes-way : n ≤ b → is_held (state_of j n (b - n + 1)) ≡ false
-    makes-way h =
+    makes_way : n ≤ b → is_held (state_of j n (b - n + 1)) ≡ false
+    makes_way h =
         let e : b - n + 1 - 1 ≡ b - n = omega arith in
         ap (λ (m : ℕ). is_held (state_at j (32 * (m % n)))) e ∙ ap (λ (m : ℕ). is_held (state_at j (32 * m))) (sym (mod-eq-sub-mod h)) ∙ next_full j n b f ∙ room
 
@@ -87,7 +87,7 @@ module _ (j : List ℕ) (n b clock amount label : ℕ) (pan : List ℕ) (f : For
             let l = f.least in
             let e : b - (b - n) ≡ 1 + (b - (b + 1 - n)) = omega arith in
             let q : b - n + 1 ≡ b + 1 - n = omega arith in
-            let z : held_after j n (b - n) 1 ≡ [] = held_none j n (b - n) 1 (λ s x y. let w : b - n + 1 ≡ s = omega arith in subst (λ (m : ℕ). is_held (state_of j n m) ≡ false) w (makes-way h)) in
+            let z : held_after j n (b - n) 1 ≡ [] = held_none j n (b - n) 1 (λ s x y. let w : b - n + 1 ≡ s = omega arith in subst (λ (m : ℕ). is_held (state_of j n m) ≡ false) w (makes_way h)) in
             ap (held_after j n (b - n)) e ∙ held_append j n (b - n) 1 (b - (b + 1 - n))
             ∙ ap (λ (l : List (List ℕ)). l ++ held_after j n (b - n + 1) (b - (b + 1 - n))) z
             ∙ ap (λ (x : ℕ). held_after j n x (b - (b + 1 - n))) q
@@ -96,8 +96,8 @@ module _ (j : List ℕ) (n b clock amount label : ℕ) (pan : List ℕ) (f : For
             ap (λ (x : ℕ). held_after j n x (b - x)) e
 
     -- the held records after booking are those before, and the new one last
-    pub book-held : held_after after n (b + 1 - n) (b + 1 - (b + 1 - n)) ≡ held_after j n (b - n) (b - (b - n)) ++ (rec ∷ [])
-    book-held =
+    pub book_held : held_after after n (b + 1 - n) (b + 1 - (b + 1 - n)) ≡ held_after j n (b - n) (b - (b - n)) ++ (rec ∷ [])
+    book_held =
         let l = f.least in
         let e : b + 1 - (b + 1 - n) ≡ b - (b + 1 - n) + 1 = omega arith in
         let q : b + 1 - n + (b - (b + 1 - n)) ≡ b = omega arith in

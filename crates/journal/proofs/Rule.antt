@@ -19,7 +19,7 @@ use Rattle.journal.specs.Rules.{full, pan_rule, book_rule, book_bytes, release_r
 use Rattle.pan.specs.Pan.{pan_length}
 use Rattle.slots.specs.Writes.{wrote, record_writes}
 use Rattle.slots.proofs.Ring.{place_in}
-use Rattle.slots.proofs.Records.{record-long}
+use Rattle.slots.proofs.Records.{record_long}
 use Rattle.slots.proofs.Writes.{wrote_put}
 use Rattle.slots.specs.declared.Newest.{Newest}
 use Rattle.slots.specs.declared.Newest.TheVariants.{Malformed, Is}
@@ -100,7 +100,7 @@ written j k r pan b clock amount label f long er e =
     let q : b ≡ b + 1 - 1 = omega arith in
     e ∙ ap (λ (v : List ℕ). wrote j (record_writes v (32 * (b % slots_of j)))) er
     ∙ ap (λ (x : ℕ). wrote j (record_writes (record32 (b + 1) clock amount label pan) (32 * (x % slots_of j)))) q
-    ∙ wrote_put (record32 (b + 1) clock amount label pan) (place (slots_of j) (b + 1)) j (record-long (b + 1) clock amount label pan long)
+    ∙ wrote_put (record32 (b + 1) clock amount label pan) (place (slots_of j) (b + 1)) j (record_long (b + 1) clock amount label pan long)
     (omega (arith, f.size, place_in (slots_of j) (b + 1) f.least))
 
 -- ---- release

@@ -1,4 +1,6 @@
 // The calls that change a journal: book and release. Each scans the journal once for its view and hands that to an inner call.
+#![tactic(auto)]
+
 use reasons::Reason;
 use slots::Newest;
 
@@ -7,14 +9,14 @@ pub mod inner;
 ghost use Rattle.journal.specs.Rules.{Books, Releases};
 
 // The serial that was booked.
-#[derive(Drop)]
+#[derive(Clone, Copy)]
 pub enum Booked {
     Serial(u32),
     Refused(Reason),
 }
 
 // The count and the sum of what was released.
-#[derive(Drop)]
+#[derive(Clone, Copy)]
 pub enum Released {
     Those(u32, u64),
     Refused(Reason),

@@ -88,9 +88,9 @@ module _ (t : Terms) (a : Date) (pan : List ℕ) (expiry : Optional) (l : pan_le
     expired n g = simp (luhn_passed e, f, g)
 
     module _ (y : Left) (g : left_rule a expiry ≡ gives y) where
-      pub is-listed : listed t.hot t.digits pan ≡ true → payer_rule t a pan expiry ≡ refuses 22
+      pub is_listed : listed t.hot t.digits pan ≡ true → payer_rule t a pan expiry ≡ refuses 22
       unfolding payer_rule
-      is-listed h = simp (luhn_passed e, f, g, h)
+      is_listed h = simp (luhn_passed e, f, g, h)
 
       pub pays : listed t.hot t.digits pan ≡ false → payer_rule t a pan expiry ≡ gives (record { pan = pan; label = x; left = y })
       unfolding payer_rule

@@ -1,5 +1,7 @@
 // The card that pays: from the stripe to a card that is neither expired nor blocked, the label of its range, and the days that it has left. For the
 // crates above: all of it is inner.
+#![tactic(auto)]
+
 ghost use Rattle.std.specs.Prelude.{◌≡◌, true, ◌≤◌, length, drop};
 ghost use Rattle.bits.specs.Reading.{read_rule, read_bytes, said, counted};
 ghost use Rattle.layout.specs.Grammar.{field_in};
@@ -38,7 +40,7 @@ fn read(track: Track, stream: &[u8], bits: u64, out: &mut [u8]) -> Read
 }
 
 // Where the PAN stands in the characters, its length, and the expiry.
-#[derive(Drop)]
+#[derive(Clone, Copy)]
 pub enum Spot {
     Stands(usize, usize, Field),
     Refused(Reason),
@@ -74,7 +76,7 @@ fn spot_of(track: Track, chars: &[u8]) -> Spot
 // ---- the card
 
 // A card that pays: where its PAN stands in the scratch, the PAN's length, the label of its range, and the days that it has left.
-#[derive(Drop)]
+#[derive(Clone, Copy)]
 pub enum Card {
     Pays(usize, usize, u16, Left),
     Refused(Reason),

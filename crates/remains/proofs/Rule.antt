@@ -26,17 +26,17 @@ module _ (n k : ℕ) (r : List ℕ) where
   told_free z = simp z
 
   module _ (some : every is_zero r ≡ false) where
-    pub told-damaged : passes (tests_of n k r) ≡ false → Damaged (fields_of r) (tests_of n k r) ≡ told_of n k r
+    pub told_damaged : passes (tests_of n k r) ≡ false → Damaged (fields_of r) (tests_of n k r) ≡ told_of n k r
     unfolding told_of
-    told-damaged p = simp (some, p)
+    told_damaged p = simp (some, p)
 
-    pub told-held : passes (tests_of n k r) ≡ true → is_held (state_at r 0) ≡ true → Held (fields_of r) ≡ told_of n k r
+    pub told_held : passes (tests_of n k r) ≡ true → is_held (state_at r 0) ≡ true → Held (fields_of r) ≡ told_of n k r
     unfolding told_of
-    told-held p h = simp (some, p, h)
+    told_held p h = simp (some, p, h)
 
-    pub told-released : passes (tests_of n k r) ≡ true → is_held (state_at r 0) ≡ false → Released (fields_of r) ≡ told_of n k r
+    pub told_released : passes (tests_of n k r) ≡ true → is_held (state_at r 0) ≡ false → Released (fields_of r) ≡ told_of n k r
     unfolding told_of
-    told-released p h = simp (some, p, h)
+    told_released p h = simp (some, p, h)
 
 -- ---- what the slots come to
 

@@ -23,7 +23,7 @@ use Rattle.remains.specs.declared.Tests.{Tests}
 use Rattle.remains.specs.declared.Slot.{Slot}
 use Rattle.remains.specs.declared.Slot.TheVariants.{Free, Held, Released, Damaged}
 use Rattle.remains.proofs.Bytes.{every_all, zeros_every, every_zeros}
-use Rattle.remains.proofs.Rule.{told_free, told-held, told-released, told-damaged}
+use Rattle.remains.proofs.Rule.{told_free, told_held, told_released, told_damaged}
 
 -- ---- the four cases
 
@@ -38,9 +38,9 @@ told n k r = go (every is_zero r) (passes (tests_of n k r)) (is_held (state_at r
   where
     go : (z p h : Bool) → every is_zero r ≡ z → passes (tests_of n k r) ≡ p → is_held (state_at r 0) ≡ h → Told n k r (told_of n k r)
     go true p h a b c = subst (Told n k r) (told_free n k r a) (is_free a)
-    go false false h a b c = subst (Told n k r) (told-damaged n k r a b) (is_damaged a b)
-    go false true true a b c = subst (Told n k r) (told-held n k r a b c) (is_held_lem b c)
-    go false true false a b c = subst (Told n k r) (told-released n k r a b c) (is_released_lem b c)
+    go false false h a b c = subst (Told n k r) (told_damaged n k r a b) (is_damaged a b)
+    go false true true a b c = subst (Told n k r) (told_held n k r a b c) (is_held_lem b c)
+    go false true false a b c = subst (Told n k r) (told_released n k r a b c) (is_released_lem b c)
 
 field_serial : (r : List ℕ) → (fields_of r).serial ≡ serial_at r 0
 unfolding fields_of

@@ -1,4 +1,6 @@
 // What each slot of any bytes of a journal's length says, whatever stands in the others, and what the slots come to.
+#![tactic(auto)]
+
 use reasons::Reason;
 
 pub mod inner;
@@ -8,7 +10,7 @@ ghost use Rattle.remains.specs.Slot.{look_rule, said_looked};
 ghost use Rattle.remains.specs.Count.{count_rule, said_counted};
 
 // The numbers that stand in a slot, damaged or not.
-#[derive(Drop)]
+#[derive(Clone, Copy)]
 pub struct Fields {
     pub serial: u32,
     pub clock: u32,
@@ -20,7 +22,7 @@ pub struct Fields {
 
 // Which tests of a record a slot passes: a serial other than 0, that belongs in this slot, a state that is one, an amount above 0, the PAN's
 // length, digits as digits, zeros as zeros.
-#[derive(Drop)]
+#[derive(Clone, Copy)]
 pub struct Tests {
     pub serial: bool,
     pub slot: bool,
@@ -32,7 +34,7 @@ pub struct Tests {
 }
 
 // What a slot says, whatever stands in the others.
-#[derive(Drop)]
+#[derive(Clone, Copy)]
 pub enum Slot {
     Free,
     Held(Fields),
@@ -40,14 +42,14 @@ pub enum Slot {
     Damaged(Fields, Tests),
 }
 
-#[derive(Drop)]
+#[derive(Clone, Copy)]
 pub enum Looked {
     Says(Slot),
     Refused(Reason),
 }
 
 // How many slots are held, released and damaged, and the sum of the held amounts.
-#[derive(Drop)]
+#[derive(Clone, Copy)]
 pub struct Counts {
     pub held: u32,
     pub sum: u64,
@@ -55,7 +57,7 @@ pub struct Counts {
     pub damaged: u32,
 }
 
-#[derive(Drop)]
+#[derive(Clone, Copy)]
 pub enum Counted {
     Of(Counts),
     Refused(Reason),

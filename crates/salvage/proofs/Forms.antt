@@ -103,28 +103,28 @@ module _ (j : List ℕ) (size : sized (length j) ≡ true) where
   there k h = let z = is_sized (length j) size in omega arith
 
   module _ (b : ℕ) (all : (k : ℕ) → k < slots_of j → verdict_at j b (oldest_of j b) k ≡ verdict.Fine) where
-    fine-at : (k : ℕ) → k < slots_of j → Fine j k (due (slots_of j) b k) (oldest_of j b) (told_at j k)
-    fine-at k l = fine j k (due (slots_of j) b k) (oldest_of j b) (told_at j k) (stands j k (there k l)) (all k l)
+    fine_at : (k : ℕ) → k < slots_of j → Fine j k (due (slots_of j) b k) (oldest_of j b) (told_at j k)
+    fine_at k l = fine j k (due (slots_of j) b k) (oldest_of j b) (told_at j k) (stands j k (there k l)) (all k l)
 
     slot_of : (s : ℕ) → (s - 1) % slots_of j < slots_of j
     slot_of s = let z = is_sized (length j) size in mod-lt (s - 1) (omega arith)
 
     -- the record of a serial that is due stands in its slot
     kept : (s : ℕ) → b - slots_of j < s → s ≤ b → Kept j ((s - 1) % slots_of j) s (oldest_of j b)
-    kept s l h = go (told_at j ((s - 1) % slots_of j)) (fine-at ((s - 1) % slots_of j) (slot_of s))
+    kept s l h = go (told_at j ((s - 1) % slots_of j)) (fine_at ((s - 1) % slots_of j) (slot_of s))
       where
-        is-due : due (slots_of j) b ((s - 1) % slots_of j) ≡ s
-        is-due = let z = is_sized (length j) size in due_is (slots_of j) b ((s - 1) % slots_of j) s z.1 l h refl
+        is_due : due (slots_of j) b ((s - 1) % slots_of j) ≡ s
+        is_due = let z = is_sized (length j) size in due_is (slots_of j) b ((s - 1) % slots_of j) s z.1 l h refl
 
         go : (t : Slot) → Fine j ((s - 1) % slots_of j) (due (slots_of j) b ((s - 1) % slots_of j)) (oldest_of j b) t
             → Kept j ((s - 1) % slots_of j) s (oldest_of j b)
-        go t (no_record z y) = absurd (omega (arith, is-due))
-        go t (held_record w y) = subst (λ (d : ℕ). Kept j ((s - 1) % slots_of j) d (oldest_of j b)) is-due w
-        go t (released_record w) = subst (λ (d : ℕ). Kept j ((s - 1) % slots_of j) d (oldest_of j b)) is-due w
+        go t (no_record z y) = absurd (omega (arith, is_due))
+        go t (held_record w y) = subst (λ (d : ℕ). Kept j ((s - 1) % slots_of j) d (oldest_of j b)) is_due w
+        go t (released_record w) = subst (λ (d : ℕ). Kept j ((s - 1) % slots_of j) d (oldest_of j b)) is_due w
 
     -- a held record that is due is no lower than the oldest held one
-    oldest-le : (s : ℕ) → b - slots_of j < s → s ≤ b → is_held (state_of j (slots_of j) s) ≡ true → (0 < oldest_of j b) × (oldest_of j b ≤ s)
-    oldest-le s l h x =
+    oldest_le : (s : ℕ) → b - slots_of j < s → s ≤ b → is_held (state_of j (slots_of j) s) ≡ true → (0 < oldest_of j b) × (oldest_of j b ≤ s)
+    oldest_le s l h x =
         let k : ℕ = (s - 1) % slots_of j in
         let w = kept s l h in
         let e : held_in (told_at j k) ≡ s = held_in_lem j k (told_at j k) (stands j k (there k (slot_of s))) w.belongs x ∙ w.serial in
@@ -132,25 +132,25 @@ module _ (j : List ℕ) (size : sized (length j) ≡ true) where
         let o = lowest_le (λ (i : ℕ). held_in (told_at j i)) (slots_of j) b (slots_of j) k (slot_of s) a in
         (o.0, omega (arith, o.1, e))
 
-    free-at : (k : ℕ) → k < slots_of j → b ≤ k → Zeros j (32 * k) (32 * k + 32)
-    free-at k l h = go (told_at j k) (fine-at k l)
+    free_at : (k : ℕ) → k < slots_of j → b ≤ k → Zeros j (32 * k) (32 * k + 32)
+    free_at k l h = go (told_at j k) (fine_at k l)
       where
         go : (t : Slot) → Fine j k (due (slots_of j) b k) (oldest_of j b) t → Zeros j (32 * k) (32 * k + 32)
         go t (no_record z y) = y
         go t (held_record w y) = absurd (omega (arith, w.serial, w.belongs.some, due-none (slots_of j) b k h))
         go t (released_record w) = absurd (omega (arith, w.serial, w.belongs.some, due-none (slots_of j) b k h))
 
-    pub fine-formed : Formed j (slots_of j) b
-    fine-formed =
+    pub fine_formed : Formed j (slots_of j) b
+    fine_formed =
         let z = is_sized (length j) size in
         record {
           size = z.0;
           least = z.1;
           most = z.2;
           stands = λ s l h. let w = kept s l h in subst (Good j (place (slots_of j) s)) w.serial w.belongs.good;
-          rest = λ i l h. free-at (i / 32) (omega arith) (omega arith) i (omega arith) (omega arith);
+          rest = λ i l h. free_at (i / 32) (omega arith) (omega arith) i (omega arith) (omega arith);
           order = λ s t l h m q r x.
-              let o = oldest-le t m q x in
+              let o = oldest_le t m q x in
               let a = (kept s l h).above r o.0 in
               apart s t r x (omega (arith, o.1, a)) (dec_lt s t);
         }
@@ -272,18 +272,18 @@ module _ (j : List ℕ) (b : ℕ) (form : Formed j (slots_of j) b) where
           let r = form.order d (oldest_of j b) low high o.0 o.1 (ap (λ (y : ℕ). is_released (state_at j y)) e ∙ x) o.2 in
           omega arith
 
-      of-released : (s : ℕ) → s ≡ d → (0 < oldest_of j b → d ≤ oldest_of j b) → Dec (0 < oldest_of j b) → released_verdict s d (oldest_of j b) ≡ verdict.Fine
-      of-released s e u (yes h) = sym (released_below s d (oldest_of j b) e (λ z. omega arith) (u h))
-      of-released s e u (no h) = sym (released_none s d (oldest_of j b) e (omega arith))
+      of_released : (s : ℕ) → s ≡ d → (0 < oldest_of j b → d ≤ oldest_of j b) → Dec (0 < oldest_of j b) → released_verdict s d (oldest_of j b) ≡ verdict.Fine
+      of_released s e u (yes h) = sym (released_below s d (oldest_of j b) e (λ z. omega arith) (u h))
+      of_released s e u (no h) = sym (released_none s d (oldest_of j b) e (omega arith))
 
-      told-fine : (s : Slot) → Stands j k s → Stood k d → b - slots_of j < d → d ≤ b → verdict_of s d (oldest_of j b) ≡ verdict.Fine
-      told-fine s (stands_free z) w low high = absurd (not_zero j k w.belongs z)
-      told-fine s (stands_held a x q) w low high = sym (held_fine _ d (q ∙ w.serial))
-      told-fine s (stands_released {f = f} a x q) w low high = of-released f.serial (q ∙ w.serial) (below w x low high) (dec_lt 0 (oldest_of j b))
-      told-fine s (stands_damaged z a) w low high = absurd (a w.belongs)
+      told_fine : (s : Slot) → Stands j k s → Stood k d → b - slots_of j < d → d ≤ b → verdict_of s d (oldest_of j b) ≡ verdict.Fine
+      told_fine s (stands_free z) w low high = absurd (not_zero j k w.belongs z)
+      told_fine s (stands_held a x q) w low high = sym (held_fine _ d (q ∙ w.serial))
+      told_fine s (stands_released {f = f} a x q) w low high = of_released f.serial (q ∙ w.serial) (below w x low high) (dec_lt 0 (oldest_of j b))
+      told_fine s (stands_damaged z a) w low high = absurd (a w.belongs)
 
       go : Dec (k < b) → verdict_at j b (oldest_of j b) k ≡ verdict.Fine
-      go (yes h) = let w = due_in k l h in told-fine (told_at j k) (told_in k l) w.0 w.1 w.2
+      go (yes h) = let w = due_in k l h in told_fine (told_at j k) (told_in k l) w.0 w.1 w.2
       go (no h) =
           ap (λ (s : Slot). verdict_of s (due (slots_of j) b k) (oldest_of j b)) (free_in k l (omega arith))
           ∙ sym (free_fine (due (slots_of j) b k) (sym (due-none (slots_of j) b k (omega arith))))

@@ -21,7 +21,7 @@ use Rattle.salvage.specs.declared.Verdict.TheVariants as verdict
 use Rattle.salvage.specs.declared.Judged.{Judged}
 use Rattle.salvage.specs.declared.Judged.TheVariants as judged
 use Rattle.salvage.proofs.Rule.{agree_on}
-use Rattle.salvage.proofs.Forms.{fine-formed, formed_fine, newest_is}
+use Rattle.salvage.proofs.Forms.{fine_formed, formed_fine, newest_is}
 
 -- whatever is done to one slot, the verdict on every other slot stays as it was, for the same newest and oldest held serial
 pub verdicts_stay : (j vs : List ℕ) (i k b h : ℕ) → length vs ≡ 32 → 32 * i + 32 ≤ length j → (i ≡ k → ⊥)
@@ -49,7 +49,7 @@ module _ (j : List ℕ) (b h : ℕ) (agree : gives (b, h) ≡ agree_rule j) wher
   fine_well all =
       let e : b ≡ newest_of j = ap (λ (p : ℕ × ℕ). p.0) both in
       let f : h ≡ oldest_of j b = ap (λ (p : ℕ × ℕ). p.1) both ∙ sym (ap (oldest_of j) e) in
-      fine-formed j size b (λ k l. let g = sym (judged_says k l) ∙ all k l in sym (ap (λ (o : ℕ). verdict_at j b o k) f) ∙ cc g)
+      fine_formed j size b (λ k l. let g = sym (judged_says k l) ∙ all k l in sym (ap (λ (o : ℕ). verdict_at j b o k) f) ∙ cc g)
 
   -- and where it is, every slot is fine
   pub well_fine : (n c : ℕ) → Formed j n c → (k : ℕ) → k < slots_of j → judge_rule j k b h ≡ gives verdict.Fine

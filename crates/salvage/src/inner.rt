@@ -79,7 +79,7 @@ fn votes(serials: &[u32; 2048], n: usize, b: u32) -> usize
 }
 
 // A serial, and how many slots agree with it.
-#[derive(Drop)]
+#[derive(Clone, Copy)]
 struct Poll {
     serial: u32,
     votes: usize,

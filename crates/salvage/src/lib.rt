@@ -1,4 +1,6 @@
 // Why a damaged journal as a whole isn't well formed: the newest serial that most records agree with, and what each slot has to do with it.
+#![tactic(auto)]
+
 use reasons::Reason;
 use remains::Looked;
 
@@ -8,7 +10,7 @@ ghost use Rattle.std.specs.Prelude.{◌≡◌};
 ghost use Rattle.salvage.specs.Whole.{agree_rule, said_agreed, judge_rule, said_judged};
 
 // The newest serial, and the oldest held one that agrees with it; 0 for none.
-#[derive(Drop)]
+#[derive(Clone, Copy)]
 pub enum Agreed {
     On(u32, u32),
     Refused(Reason),
@@ -16,7 +18,7 @@ pub enum Agreed {
 
 // What is wrong with a slot as a part of the whole: the serial that is missing; the serial that belongs in a damaged slot, 0 for none; the serial
 // of a record that doesn't agree about the newest; the serial of a released record, and that of a held one below it.
-#[derive(Drop)]
+#[derive(Clone, Copy)]
 pub enum Verdict {
     Fine,
     Missing(u32),
@@ -25,7 +27,7 @@ pub enum Verdict {
     Above(u32, u32),
 }
 
-#[derive(Drop)]
+#[derive(Clone, Copy)]
 pub enum Judged {
     Is(Verdict),
     Refused(Reason),

@@ -146,18 +146,18 @@ module _ (s clock amount label : ℕ) (pan : List ℕ) where
   record_held = ap is_held state_of_lem ∙ booked_held (length pan)
 
   module _ (long : pan_length (length pan) ≡ true) where
-    pub record-long : length the ≡ 32
+    pub record_long : length the ≡ 32
     unfolding behind
-    record-long =
+    record_long =
         let k = shown_long pan long in
         let m = kept-fits (held_state (length pan)) in
         let z : length {A = ℕ} (replicate (16 - length (shown pan)) 0) ≡ 16 - length (shown pan) = length-replicate (16 - length (shown pan)) 0 in
         ap length halves ∙ length-append ahead behind
         ∙ omega (arith, ahead_long, length-append (shown pan) (replicate {A = ℕ} (16 - length (shown pan)) 0))
 
-    digit-of : all_digits pan ≡ true → (e : ℕ) → e < kept (held_state (length pan)) → is_digit (get_or the (16 + e) 0) ≡ true
+    digit_of : all_digits pan ≡ true → (e : ℕ) → e < kept (held_state (length pan)) → is_digit (get_or the (16 + e) 0) ≡ true
     unfolding behind
-    digit-of d e h =
+    digit_of d e h =
         let k = shown_long pan long in
         ap is_digit (late e ∙ get_or-append (shown pan) (replicate (16 - length (shown pan)) 0) 0 e (omega arith)) ∙ shown_digit pan long d e (omega arith)
 
@@ -171,9 +171,9 @@ module _ (s clock amount label : ℕ) (pan : List ℕ) where
         ∙ get_or-replicate (16 - length (shown pan)) (e - length (shown pan)) 0 0 (omega arith)
 
     -- its masked text is the PAN's
-    pub masked-record : masked_of the ≡ masked pan
+    pub masked_record : masked_of the ≡ masked pan
     unfolding masked_of masked behind
-    masked-record =
+    masked_record =
         let n : ℕ = length pan in
         let x = state_of_lem in
         let f : front_kept (state_at the 0) ≡ length (front pan) = ap front_kept x ∙ booked-front n ∙ sym (front_length pan long) in
@@ -238,7 +238,7 @@ good_new s clock amount label pan long digits hs ha hb =
       len = ap (λ (x : ℕ). length_fits x (length_at (record32 s clock amount label pan) 0)) st ∙ ap (length_fits (held_state (length pan))) (length_of s clock amount label pan) ∙ booked-length (length pan) long;
       digits = λ i a b.
           let e : i ≡ 16 + (i - 16) = omega arith in
-          ap (λ (m : ℕ). is_digit (get_or (record32 s clock amount label pan) m 0)) e ∙ digit-of s clock amount label pan long digits (i - 16) (omega arith);
+          ap (λ (m : ℕ). is_digit (get_or (record32 s clock amount label pan) m 0)) e ∙ digit_of s clock amount label pan long digits (i - 16) (omega arith);
       zeros = λ i a b.
           let e : i ≡ 16 + (i - 16) = omega arith in
           ap (λ (m : ℕ). get_or (record32 s clock amount label pan) m 0) e ∙ zero_of s clock amount label pan long (i - 16) (omega arith) (omega arith);

@@ -1,4 +1,6 @@
 // A record's 32 bytes, when a journal is well formed, and the one scan that gives the view of a journal. For the crates above: all of it is inner.
+#![tactic(auto)]
+
 ghost use Rattle.std.specs.Prelude.{◌≡◌, true, ℕ, ◌+◌, ◌*◌, ◌-◌, ◌≤◌, ◌<◌, ◌∷◌, ◌++◌, length, replicate};
 ghost use Rattle.text.specs.Numbers.{u32_at, le16, le32, put};
 ghost use Rattle.slots.specs.Record.{is_held, is_released, is_record, held_state, freed_state, length_fits, kept, Zeros, Digits, Good, record32};
@@ -6,7 +8,7 @@ ghost use Rattle.slots.specs.Journal.{Tells, sized, place, Stands, Ordered, Newe
 ghost use Rattle.slots.specs.Writes.{wrote, record_writes};
 
 // The view of a journal: its newest serial, 0 for none, or that it is not well formed.
-#[derive(Drop)]
+#[derive(Clone, Copy)]
 pub enum Newest {
     Malformed,
     Is(u32),

@@ -26,8 +26,8 @@ use Rattle.surveys.specs.Survey.{Belongs, SlotIs, free, held, released, damaged,
 
 module _ (j : List ℕ) (k s : ℕ) (e : s ≡ serial_at j (32 * k)) where
   module _ (some : Zeros j (32 * k) (32 * k + 32) → ⊥) where
-    pub no-serial : s ≡ 0 → SlotIs j k 3
-    no-serial z = damaged some (λ b. omega (arith, e, b.some))
+    pub no_serial : s ≡ 0 → SlotIs j k 3
+    no_serial z = damaged some (λ b. omega (arith, e, b.some))
 
     pub no_place : (n p : ℕ) → n ≡ slots_of j → p ≡ place n s → (p ≡ 32 * k → ⊥) → SlotIs j k 3
     no_place n p en ep ne = damaged some (λ b. ne (ep ∙ (λ i. place (en i) (e i)) ∙ b.slot))

@@ -1,4 +1,6 @@
 // The survey, for the technician who meets 16: what each slot of a journal says of itself.
+#![tactic(auto)]
+
 ghost use Rattle.std.specs.Prelude.{◌≡◌, ◌+◌, ◌*◌, ◌≤◌, ◌<◌, length};
 ghost use Rattle.slots.specs.Journal.{slots_of, Formed};
 ghost use Rattle.surveys.specs.Survey.{SlotIs, SlotsIn, SurveysAs, Surveys};
@@ -7,7 +9,7 @@ use reasons::Reason;
 use slots::Newest;
 
 // Whether the journal is well formed.
-#[derive(Drop)]
+#[derive(Clone, Copy)]
 pub enum Surveyed {
     Formed,
     Malformed,

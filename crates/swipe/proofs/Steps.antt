@@ -50,24 +50,24 @@ module _ (t : Terms) (amount : ℕ) (a : Date) (j : List ℕ) where
     bad_list e h = let w = both_true (table_ok t.site) (table_ok t.acquirer) e in simp (w.0, w.1, h)
 
     module _ (s : Sound t) where
-      pub zero-amount : amount ≡ 0 → refuses 17 ≡ box_rule (Is b) t amount a j
+      pub zero_amount : amount ≡ 0 → refuses 17 ≡ box_rule (Is b) t amount a j
       unfolding box_rule
-      zero-amount z = simp (s.site_right, s.acquirer_right, s.hot_right, eq-eqb amount 0 z)
+      zero_amount z = simp (s.site_right, s.acquirer_right, s.hot_right, eq-eqb amount 0 z)
 
       module _ (z : amount ≡ 0 → ⊥) where
-        pub bad-date : real a ≡ false → refuses 23 ≡ box_rule (Is b) t amount a j
+        pub bad_date : real a ≡ false → refuses 23 ≡ box_rule (Is b) t amount a j
         unfolding box_rule
-        bad-date d = simp (s.site_right, s.acquirer_right, s.hot_right, ne_eqb amount 0 z, d)
+        bad_date d = simp (s.site_right, s.acquirer_right, s.hot_right, ne_eqb amount 0 z, d)
 
         module _ (d : real a ≡ true) where
-          pub last-serial : b ≡ 4294967295 → refuses 19 ≡ box_rule (Is b) t amount a j
+          pub last_serial : b ≡ 4294967295 → refuses 19 ≡ box_rule (Is b) t amount a j
           unfolding box_rule
-          last-serial l = simp (s.site_right, s.acquirer_right, s.hot_right, ne_eqb amount 0 z, d, eq-eqb b 4294967295 l)
+          last_serial l = simp (s.site_right, s.acquirer_right, s.hot_right, ne_eqb amount 0 z, d, eq-eqb b 4294967295 l)
 
           module _ (l : b ≡ 4294967295 → ⊥) where
-            pub journal-full : full j ≡ true → refuses 18 ≡ box_rule (Is b) t amount a j
+            pub journal_full : full j ≡ true → refuses 18 ≡ box_rule (Is b) t amount a j
             unfolding box_rule
-            journal-full f = simp (s.site_right, s.acquirer_right, s.hot_right, ne_eqb amount 0 z, d, ne_eqb b 4294967295 l, f)
+            journal_full f = simp (s.site_right, s.acquirer_right, s.hot_right, ne_eqb amount 0 z, d, ne_eqb b 4294967295 l, f)
 
             pub all_passed : full j ≡ false → gives b ≡ box_rule (Is b) t amount a j
             unfolding box_rule
@@ -78,7 +78,7 @@ module _ (t : Terms) (amount : ℕ) (a : Date) (j : List ℕ) where
     pub view : m ≡ Is b
     pub sound : Sound t
     pub some : amount ≡ 0 → ⊥
-    pub date-right : real a ≡ true
+    pub date_right : real a ≡ true
     pub serials : b ≡ 4294967295 → ⊥
     pub slot : full j ≡ false
 
@@ -102,7 +102,7 @@ module _ (t : Terms) (amount : ℕ) (a : Date) (j : List ℕ) where
         view = formed_is m b w.0 n;
         sound = record { site_right = s.0; acquirer_right = q.0; hot_right = h.0 };
         some = eqb-false amount 0 (not-true _ z.0);
-        date-right = d.0;
+        date_right = d.0;
         serials = λ h. eqb-false (newest m) 4294967295 (not-true _ l.0) (n ∙ h);
         slot = not-true _ f.0;
       }
@@ -121,13 +121,13 @@ module _ (m : Newest) (g : Given) (amount space : ℕ) (j : List ℕ) where
   short_scratch h = simp (lt-leb (room g.track) space h)
 
   module _ (h : room g.track ≤ space) where
-    pub box-refused : (n : ℕ) → refuses n ≡ box_rule m g.terms amount g.date j → swipe_rule m g amount space j ≡ refuses n
+    pub box_refused : (n : ℕ) → refuses n ≡ box_rule m g.terms amount g.date j → swipe_rule m g amount space j ≡ refuses n
     unfolding swipe_rule ready_rule
-    box-refused n e = rw (le-leb (room g.track) space h, ← e)
+    box_refused n e = rw (le-leb (room g.track) space h, ← e)
 
-    pub card-next : (b : ℕ) → gives b ≡ box_rule m g.terms amount g.date j → swipe_rule m g amount space j ≡ card_rule g
+    pub card_next : (b : ℕ) → gives b ≡ box_rule m g.terms amount g.date j → swipe_rule m g amount space j ≡ card_rule g
     unfolding swipe_rule ready_rule
-    card-next b e = rw (le-leb (room g.track) space h, ← e)
+    card_next b e = rw (le-leb (room g.track) space h, ← e)
 
 -- a card that pays is booked: x is the answered serial, what is left is answered with it, and k are the journal's bytes
 pub booked : (g : Given) (amount clock space b : ℕ) (j : List ℕ) (p : Payer) (x : ℕ) (k : List ℕ) → room g.track ≤ space
@@ -137,7 +137,7 @@ pub booked : (g : Given) (amount clock space b : ℕ) (j : List ℕ) (p : Payer)
 unfolding swipe_answer swipe_bytes
 booked g amount clock space b j p x k h r e s f =
     let o = opened g.terms amount g.date j (Is b) b (sym r) in
-    let pays = card-next (Is b) g amount space j h b r ∙ e in
+    let pays = card_next (Is b) g amount space j h b r ∙ e in
     let d = book_done j p.pan p.label amount b (card_fine g p e) o.some o.serials o.slot in
     let w = book_wrote (Is b) j p.pan p.label amount clock (b + 1) x k s d f in
     let says : Outcome ℕ → Outcome Receipt = λ o. and_then o (λ n. gives (receipt n p.left)) in

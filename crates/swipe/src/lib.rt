@@ -1,4 +1,6 @@
 // One swipe, from the stripe to the journal.
+#![tactic(auto)]
+
 ghost use Rattle.std.specs.Prelude.{◌≡◌, ◌≤◌, length, drop, replicate};
 ghost use Rattle.text.specs.Numbers.{put};
 ghost use Rattle.slots.specs.Views.{Seen};
@@ -14,7 +16,7 @@ use slots::Newest;
 // ---- the box
 
 // The newest serial of a journal that a payment can be booked in.
-#[derive(Drop)]
+#[derive(Clone, Copy)]
 pub enum Bookable {
     After(u32),
     Refused(Reason),
@@ -61,7 +63,7 @@ fn ready(
 }
 
 // The serial that the payment was booked with, and the days that the card has left.
-#[derive(Drop)]
+#[derive(Clone, Copy)]
 pub enum Swiped {
     Booked(u32, Left),
     Refused(Reason),

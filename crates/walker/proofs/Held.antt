@@ -24,18 +24,18 @@ module _ (j : List ℕ) (s : ℕ) where
   too_many h = simp (over 1 2048 (slots_of j) h)
 
   module _ (some : 1 ≤ slots_of j) (most : slots_of j ≤ 2048) where
-    pub no-serial : s ≡ 0 → refuses 20 ≡ held_rule j s
+    pub no_serial : s ≡ 0 → refuses 20 ≡ held_rule j s
     unfolding held_rule held_here
-    no-serial e = simp (inside 1 2048 (slots_of j) some most, eq-eqb s 0 e)
+    no_serial e = simp (inside 1 2048 (slots_of j) some most, eq-eqb s 0 e)
 
     module _ (nz : s ≡ 0 → ⊥) where
       pub another : (serial_at j (place (slots_of j) s) ≡ s → ⊥) → refuses 20 ≡ held_rule j s
       unfolding held_rule held_here
       another ne = simp (inside 1 2048 (slots_of j) some most, ne_eqb s 0 nz, ne_eqb (serial_at j (place (slots_of j) s)) s ne)
 
-      pub is-here : serial_at j (place (slots_of j) s) ≡ s → is_held (state_of j (slots_of j) s) ≡ true → held_here j s ≡ true
+      pub is_here : serial_at j (place (slots_of j) s) ≡ s → is_held (state_of j (slots_of j) s) ≡ true → held_here j s ≡ true
       unfolding held_here
-      is-here e h = simp (inside 1 2048 (slots_of j) some most, ne_eqb s 0 nz, eq-eqb (serial_at j (place (slots_of j) s)) s e, h)
+      is_here e h = simp (inside 1 2048 (slots_of j) some most, ne_eqb s 0 nz, eq-eqb (serial_at j (place (slots_of j) s)) s e, h)
 
       pub not_held : serial_at j (place (slots_of j) s) ≡ s → is_held (state_of j (slots_of j) s) ≡ false → refuses 20 ≡ held_rule j s
       unfolding held_rule held_here

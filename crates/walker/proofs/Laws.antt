@@ -22,7 +22,7 @@ use Rattle.held.proofs.Lists.{held_up}
 use Rattle.held.proofs.Laws.{record_serial, shows_one}
 use Rattle.walker.specs.declared.Walker.{Walker}
 use Rattle.walker.specs.Walk.{held_here, held_rule, next_of, StartsAt, StartNumber, given, walk}
-use Rattle.walker.proofs.Held.{another, is-here, refused_here, next_last, next_held, next-not}
+use Rattle.walker.proofs.Held.{another, is_here, refused_here, next_last, next_held, next-not}
 
 -- ---- each call has one outcome
 
@@ -39,8 +39,8 @@ same_walker v w a b = λ i. record { journal = a i; next = b i }
 pub one_start : (j : Bor (List ℕ)) (v w : Walker) → (v.journal ≡ j) × StartsAt j.now v.next → (w.journal ≡ j) × StartsAt j.now w.next → v ≡ w
 one_start j v w a b = same_walker v w (a.0 ∙ sym b.0) (one_oldest j.now v.next w.next a.1 b.1)
 
-pub one_start-number : (j : List ℕ) (x y : ℕ) → StartNumber j x → StartNumber j y → x ≡ y
-one_start-number j x y a b = let w = one_view j a b in w.1 ∙ sym w.2
+pub one_start_number : (j : List ℕ) (x y : ℕ) → StartNumber j x → StartNumber j y → x ≡ y
+one_start_number j x y a b = let w = one_view j a b in w.1 ∙ sym w.2
 
 pub one_record : (j r q : Bor (List ℕ)) (s : ℕ) → Shows j (held_rule j.now s) r → Shows j (held_rule j.now s) q → Same r q
 one_record j r q s a b = shows_one j r q (held_rule j.now s) (held_rule j.now s) refl a b
@@ -59,7 +59,7 @@ done j (suc t) = refl
 
 module _ (j : List ℕ) (b : ℕ) (f : Formed j (slots_of j) b) (fits : b < 4294967296) where
   pub held_here_lem : (s : ℕ) → low_of j b < s → s ≤ b → is_held (state_of j (slots_of j) s) ≡ true → held_here j s ≡ true
-  held_here_lem s l h e = is-here j s f.least f.most (λ z. omega arith) (f.stands s l h).serial e
+  held_here_lem s l h e = is_here j s f.least f.most (λ z. omega arith) (f.stands s l h).serial e
 
   -- no record stands after the newest
   none_after : held_here j (b + 1) ≡ false

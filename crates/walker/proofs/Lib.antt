@@ -1,4 +1,3 @@
-pub mod Apart
 pub mod Held
 pub mod Steps
 pub mod Laws

@@ -108,14 +108,14 @@ module _ (j : List ℕ) (b : ℕ) (f : Formed j (slots_of j) b) where
       subst (λ (x : ℕ). Above j (anew j b) 0 (held_after j (slots_of j) x (b - x))) m (above_from (suc b) 0 (omega arith))
 
   module _ (fits : b < 4294967296) where
-    onward-from : (t s : ℕ) → low_of j b < s → s ≤ b → is_held (state_of j (slots_of j) s) ≡ true → b - s < t
+    onward_from : (t s : ℕ) → low_of j b < s → s ≤ b → is_held (state_of j (slots_of j) s) ≡ true → b - s < t
         → Onward j (steps j) s (held_after j (slots_of j) (s - 1) (b - (s - 1)))
     unfolding held_after
-    onward-from zero s l h e m = absurd (omega arith)
-    onward-from (suc t) s l h e m =
+    onward_from zero s l h e m = absurd (omega arith)
+    onward_from (suc t) s l h e m =
         subst⁻¹ (Onward j (steps j) s) (head_held s (omega arith) h e)
         (onward_next (λ z. omega arith) (sym (step_found j s (gives (place (slots_of j) s)) (here j s (held_here_lem j b f fits s l h e))))
-        (rest (λ up x. onward-from t (s + 1) (omega arith) x up (omega arith)) (dec_lt s b)))
+        (rest (λ up x. onward_from t (s + 1) (omega arith) x up (omega arith)) (dec_lt s b)))
       where
         rest : (is_held (state_of j (slots_of j) (s + 1)) ≡ true → s + 1 ≤ b → Onward j (steps j) (s + 1) (held_after j (slots_of j) (s + 1 - 1) (b - (s + 1 - 1))))
             → Dec (s < b) → Onward j (steps j) (next_of j s) (held_after j (slots_of j) s (b - s))
@@ -133,9 +133,9 @@ module _ (j : List ℕ) (b : ℕ) (f : Formed j (slots_of j) b) where
             (subst (λ (x : ℕ). Onward j (steps j) 0 (held_after j (slots_of j) s x)) o onward_done))
 
     -- the same of a start that checks the journal, and steps that don't
-    pub onward-all : (s : ℕ) → start_rule (Is b) j ≡ gives s → Onward j (steps j) s (held_list j b)
+    pub onward_all : (s : ℕ) → start_rule (Is b) j ≡ gives s → Onward j (steps j) s (held_list j b)
     unfolding start_rule tell_rule
-    onward-all s e = go (cc e) (first_held j (slots_of j) (low_of j b) (b - low_of j b))
+    onward_all s e = go (cc e) (first_held j (slots_of j) (low_of j b) (b - low_of j b))
       where
         go : first_of (held_list j b) ≡ s → Begins j (slots_of j) (low_of j b) (b - low_of j b) → Onward j (steps j) s (held_list j b)
         go e (empty x) =
@@ -146,4 +146,4 @@ module _ (j : List ℕ) (b : ℕ) (f : Formed j (slots_of j) b) where
             let all : held_list j b ≡ held_after j (slots_of j) (u - 1) (b - (u - 1)) = x ∙ ap (held_after j (slots_of j) (u - 1)) q in
             let us : u ≡ s = sym (ap first_of all ∙ first_serial j (slots_of j) b u (b - (u - 1)) f l (omega arith) held (omega arith)) ∙ e in
             subst (λ (x : ℕ). Onward j (steps j) x (held_list j b)) us
-            (subst⁻¹ (Onward j (steps j) u) all (onward-from (suc b) u l (omega arith) held (omega arith)))
+            (subst⁻¹ (Onward j (steps j) u) all (onward_from (suc b) u l (omega arith) held (omega arith)))

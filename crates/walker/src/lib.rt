@@ -1,4 +1,6 @@
 // A walker holds the lent journal and its place, and gives held records, as parts of it, by rising serial, each once, then says done.
+#![tactic(auto)]
+
 pub mod inner;
 
 ghost use Rattle.std.specs.Prelude.{◌≡◌};
@@ -9,7 +11,7 @@ use held::{Shown, Told};
 use reasons::Reason;
 
 // `next` is the serial of the record that comes next, 0 for done.
-#[derive(Drop)]
+#[derive(Clone, Copy)]
 pub struct Walker<'a> {
     pub journal: &'a [u8],
     pub next: u32,
