@@ -24,12 +24,12 @@ use Rattle.history.proofs.Demand.{zeros_open}
 use Rattle.history.proofs.Laws.{demand_3}
 use Rattle.ledger.specs.Ledger.{moved, Takes}
 use Rattle.ledger.specs.declared.Taken.TheVariants.{Now}
-use Rattle.ledger.proofs.Rule.{next_is, moves-on}
+use Rattle.ledger.proofs.Rule.{next_is, moves_on}
 use Rattle.channel.specs.Channel.{World, start, leaving, sending, answering, Nth, head_is, Act, sends, hears, is_answered, made}
 use Rattle.channel.specs.Channel.{Course, nothing_yet, and_then, box_sends, host_hears, box_hears, Settles}
 use Rattle.channel.proofs.Lists.{among_nth}
 use Rattle.channel.proofs.Kept.{LastAnswer, none_yet, the_last, Kept, course_kept}
-use Rattle.channel.proofs.Laws.{wanted_is_held, last-answer-settles, same-booked}
+use Rattle.channel.proofs.Laws.{wanted_is_held, last_answer_settles, same_booked}
 
 -- a release up to a serial that was booked can be made
 release_can : (j : List ℕ) (b s : ℕ) → Formed j (slots_of j) b → 1 ≤ s → s ≤ b
@@ -76,7 +76,7 @@ module _ (n : ℕ) (least : 1 ≤ n) (most : n ≤ 2048) where
       let sent : Course w (sends i.0 ∷ []) [] (sending w r) = and_then nothing_yet (box_sends (length (booked ds)) three.formed i.1) in
       let kept : Kept (replicate (32 * n) 0) ds (sending w r) = course_kept n least most (course_quiet c sent) in
       let takes : Takes w.ledger r (Now (moved w.ledger r)) =
-      moves-on w.ledger r true (tells_yes (kept.sent r (Memᴰ.head refl)).held) refl kept.fine (w.ledger.taken + 1) (amount_at r 0)
+      moves_on w.ledger r true (tells_yes (kept.sent r (Memᴰ.head refl)).held) refl kept.fine (w.ledger.taken + 1) (amount_at r 0)
       (sym q.2) refl
       (next_is w.ledger.taken (serial_of r) (omega (arith, a.fits)) ∙ eq-eqb (serial_of r) (w.ledger.taken + 1) q.2) in
       record {
@@ -129,9 +129,9 @@ module _ (n : ℕ) (least : 1 ≤ n) (most : n ≤ 2048) where
             more = made 0 (release s) r k ∷ [];
             world = leaving w k;
             course = and_then nothing_yet (box_hears 0 r (subst⁻¹ (λ (l : List ℕ). Nth 0 l s) q head_is) t);
-            no_booking = same-booked n least most acts ds w c s older q 0 r k t;
+            no_booking = same_booked n least most acts ds w c s older q 0 r k t;
             host_has = total;
-            box_released = last-answer-settles n least most acts ds w c s older q 0 r k t ∙ total;
+            box_released = last_answer_settles n least most acts ds w c s older q 0 r k t ∙ total;
           }
 
   -- whatever the channel has done so far, it keeps nobody from bringing in all that was booked

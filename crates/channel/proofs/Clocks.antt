@@ -35,6 +35,7 @@ records_append none t = t
 records_append (more r s) t = more r (records_append s t)
 
 same_nth : {i : ℕ} {rs qs : List (List ℕ)} {r q : List ℕ} → SameRecords rs qs → Nth i rs r → Nth i qs q → SameRecord r q
+same_nth none n _ = elim n [ ]
 same_nth (more s w) head_is head_is = s
 same_nth (more s w) (further n) (further m) = same_nth w n m
 

@@ -48,7 +48,7 @@ pub record Kept (j : List ℕ) (ds : List Done) (w : World) : Type 0 where
   pub sent : (r : List ℕ) → Among r w.records → Sent (booked ds) r
   pub reach : w.ledger.taken ≤ length (booked ds)
   pub total : w.ledger.total ≡ takings (take w.ledger.taken (booked ds))
-  pub as_booked_lem : w.took ≡ map record_of (take w.ledger.taken (booked ds))
+  pub as_booked : w.took ≡ map record_of (take w.ledger.taken (booked ds))
   pub fine : sound w.ledger.taken w.ledger.total ≡ true
   -- no answer lies above the last serial taken
   pub told : (s : ℕ) → Among s w.answers → s ≤ w.ledger.taken
@@ -99,7 +99,7 @@ call_kept j ds w d k does h =
       sent = λ r a. subst⁻¹ (λ (ps : List Payment). Sent ps r) more (sent_still (booked ds) (booked (d ∷ [])) r (k.sent r a));
       reach = omega (arith, ap length more, length-append (booked ds) (booked (d ∷ [])));
       total = k.total ∙ ap takings same;
-      as_booked_lem = k.as_booked_lem ∙ ap (map record_of) same;
+      as_booked = k.as_booked ∙ ap (map record_of) same;
       fine = k.fine;
       told = k.told;
       last = k.last;
@@ -119,12 +119,12 @@ module _ (j : List ℕ) (ds : List Done) (w : World) (k : Kept j ds w) where
       -- what the ledger has come to
       so : w.ledger.taken ≤ l.taken → l.taken ≤ length (booked ds) → l.total ≡ takings (take l.taken (booked ds))
           → (answering w message (Now l)).took ≡ map record_of (take l.taken (booked ds)) → Kept j ds (answering w message (Now l))
-      so up reach total as_booked_lem = record {
+      so up reach total as_booked = record {
         run = k.run;
         sent = k.sent;
         reach = reach;
         total = total;
-        as_booked_lem = as_booked_lem;
+        as_booked = as_booked;
         fine = stays_sound w.ledger message l (omega (arith, s.amount, s.small)) t;
         told = λ x b. ⊎_elim (λ (e : x ≡ l.taken). omega arith) (λ m. omega (arith, k.told x m)) (Memᴰ.cases_cons b);
         last = the_last refl;
@@ -132,15 +132,15 @@ module _ (j : List ℕ) (ds : List Done) (w : World) (k : Kept j ds w) where
       }
 
       -- the records that it took, where it wants the message or not
-      took-so : (b : Bool) → wants w.ledger message ≡ b → (answering w message (Now l)).took ≡ cond b (w.took ++ (message ∷ [])) w.took
-      took-so b e = ap (λ (x : Bool). cond x (w.took ++ (message ∷ [])) w.took) e
+      took_so : (b : Bool) → wants w.ledger message ≡ b → (answering w message (Now l)).took ≡ cond b (w.took ++ (message ∷ [])) w.took
+      took_so b e = ap (λ (x : Bool). cond x (w.took ++ (message ∷ [])) w.took) e
 
       go : Did w.ledger message l → Kept j ds (answering w message (Now l))
       go (left_alone q e) =
           let x : l.taken ≡ w.ledger.taken = ap (λ (m : Ledger). m.taken) e in
           let y : l.total ≡ w.ledger.total = ap (λ (m : Ledger). m.total) e in
           so (omega arith) (omega (arith, k.reach)) (y ∙ k.total ∙ ap (λ (t : ℕ). takings (take t (booked ds))) (sym x))
-          (took-so false q ∙ k.as_booked_lem ∙ ap (λ (t : ℕ). map record_of (take t (booked ds))) (sym x))
+          (took_so false q ∙ k.as_booked ∙ ap (λ (t : ℕ). map record_of (take t (booked ds))) (sym x))
       go (took q serial e) =
           let p : Place (booked ds) message = s.place in
           let x : l.taken ≡ w.ledger.taken + 1 = ap (λ (m : Ledger). m.taken) e in
@@ -154,7 +154,7 @@ module _ (j : List ℕ) (ds : List Done) (w : World) (k : Kept j ds w) where
           (take_next p.before p.payment p.later w.ledger.taken n) in
           so (omega arith) (omega arith)
           (y ∙ (λ i. k.total i + s.amount i) ∙ sym (takings_more (take w.ledger.taken (booked ds)) p.payment) ∙ ap takings (sym grown))
-          (took-so true q ∙ (λ i. k.as_booked_lem i ++ (p.is i ∷ [])) ∙ sym (map-append record_of (take w.ledger.taken (booked ds)) (p.payment ∷ []))
+          (took_so true q ∙ (λ i. k.as_booked i ++ (p.is i ∷ [])) ∙ sym (map-append record_of (take w.ledger.taken (booked ds)) (p.payment ∷ []))
           ∙ ap (map record_of) (sym grown))
 
   -- a refusal changes nothing
@@ -183,7 +183,7 @@ module _ (n : ℕ) (least : 1 ≤ n) (most : n ≤ 2048) where
         sent = λ q m. ⊎_elim (λ z. subst⁻¹ (Sent (booked ds)) z new) (k.sent q) (Memᴰ.cases_cons m);
         reach = k.reach;
         total = k.total;
-        as_booked_lem = k.as_booked_lem;
+        as_booked = k.as_booked;
         fine = k.fine;
         told = k.told;
         last = k.last;
@@ -210,7 +210,7 @@ module _ (n : ℕ) (least : 1 ≤ n) (most : n ≤ 2048) where
     sent = λ r a. absurd (Memᴰ.not-nil a);
     reach = omega arith;
     total = refl;
-    as_booked_lem = refl;
+    as_booked = refl;
     fine = opened-sound;
     told = λ s a. absurd (Memᴰ.not-nil a);
     last = none_yet refl;

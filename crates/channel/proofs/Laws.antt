@@ -91,7 +91,7 @@ module _ (n : ℕ) (least : 1 ≤ n) (most : n ≤ 2048) (acts : List Act) (ds :
   pub agree : Agree ds w
   agree = record {
     total = kept.total ∙ ap takings (sym counted_is);
-    as_booked_lem = kept.as_booked_lem ∙ ap (map record_of) (sym counted_is);
+    as_booked = kept.as_booked ∙ ap (map record_of) (sym counted_is);
     none_missing = λ p a. subst⁻¹ (Among p) counted_is (among_more p (highest ds) w.ledger.taken (booked ds) kept.past a);
     from_booked = kept.reach;
     past_released = kept.past;
@@ -163,18 +163,18 @@ module _ (n : ℕ) (least : 1 ≤ n) (most : n ≤ 2048) (acts : List Act) (ds :
     kept_then : Kept (replicate (32 * n) 0) es (leaving w after)
     kept_then = course_kept n least most (and_then c (box_hears clock r (subst⁻¹ (λ (l : List ℕ). Nth 0 l s) is_last head_is) t))
 
-    three-then : Demand3 es after
-    three-then = demand_3 n least most es after kept_then.run
+    three_then : Demand3 es after
+    three_then = demand_3 n least most es after kept_then.run
 
-    up-to-taken : highest es ≡ w.ledger.taken
-    up-to-taken =
+    up_to_taken : highest es ≡ w.ledger.taken
+    up_to_taken =
         let e : s ≡ w.ledger.taken = last_is (subst (LastAnswer w.ledger.taken) is_last kept.last) in
         let up = reaches w.journal (length (booked ds)) s r after three.formed t (omega (arith, kept.reach)) in
         omega (arith, highest-append ds (made clock (release s) r after ∷ []), one_highest (made clock (release s) r after), kept_then.past)
 
-    pub same-booked : booked es ≡ booked ds
+    pub same_booked : booked es ≡ booked ds
     unfolding booked
-    same-booked = booked-append ds (made clock (release s) r after ∷ []) ∙ ap (λ (l : List Payment). booked ds ++ (l ++ [])) (none r) ∙ append-nil (booked ds)
+    same_booked = booked-append ds (made clock (release s) r after ∷ []) ∙ ap (λ (l : List Payment). booked ds ++ (l ++ [])) (none r) ∙ append-nil (booked ds)
       where
         none : (q : Released) → booked_in (of_release q s) ≡ []
         none (released.Those count sum) = refl
@@ -182,14 +182,14 @@ module _ (n : ℕ) (least : 1 ≤ n) (most : n ≤ 2048) (acts : List Act) (ds :
 
     -- "If its last answer arrives while the host has taken every held record, the box's released total equals the host's total":
     -- so it does whether the host has taken every one or not,
-    pub last-answer-settles : freed_sum es ≡ w.ledger.total
-    last-answer-settles = three-then.summed ∙ ap (λ (x : ℕ). takings (take x (booked es))) up-to-taken ∙ sym kept_then.total
+    pub last_answer_settles : freed_sum es ≡ w.ledger.total
+    last_answer_settles = three_then.summed ∙ ap (λ (x : ℕ). takings (take x (booked es))) up_to_taken ∙ sym kept_then.total
 
     -- and where it has, both are the sum of all that was booked, and nothing is held any more
     pub all_settled : AllTaken ds w → (w.ledger.total ≡ takings (booked ds)) × (held_list after (length (booked ds)) ≡ [])
     all_settled all =
         let e : w.ledger.taken ≡ length (booked ds) = taken_all all in
-        let n : length (booked es) ≡ length (booked ds) = ap length same-booked in (
+        let n : length (booked es) ≡ length (booked ds) = ap length same_booked in (
           kept.total ∙ ap takings (take_all w.ledger.taken (booked ds) (omega arith)),
-          ap (held_list after) (sym n) ∙ three-then.held ∙ ap (map record_of) (drop_of_length-le (booked es) {i = highest es} (omega (arith, up-to-taken))),
+          ap (held_list after) (sym n) ∙ three_then.held ∙ ap (map record_of) (drop_of_length-le (booked es) {i = highest es} (omega (arith, up_to_taken))),
         )

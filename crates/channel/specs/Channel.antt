@@ -115,7 +115,7 @@ pub record Agree (ds : List Done) (w : World) : Type 0 where
   -- "the host's total is the sum of booked payments below its next serial"
   pub total : w.ledger.total ≡ takings (counted ds w.ledger)
   -- and what it took is, record by record, what was booked
-  pub as_booked_lem : w.took ≡ map record_of (counted ds w.ledger)
+  pub as_booked : w.took ≡ map record_of (counted ds w.ledger)
   -- "no released payment is missing from it"
   pub none_missing : (p : Payment) → Among p (released ds) → Among p (counted ds w.ledger)
   -- so it has taken nothing that wasn't booked, and all that was released, serial after serial

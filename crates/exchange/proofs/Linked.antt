@@ -144,23 +144,23 @@ found j (Is b) s at f e =
 -- what stands in a place of the air after a record was put into one
 module _ (a : List ℕ) (place : ℕ) (r : List ℕ) (long : length r ≡ 32) where
   module _ (h : place < length a / 32) where
-    in-air : 32 * place + length r ≤ length a
-    in-air = omega arith
+    in_air : 32 * place + length r ≤ length a
+    in_air = omega arith
 
-    put-here : message_at (put a (32 * place) r) place ≡ r
+    put_here : message_at (put a (32 * place) r) place ≡ r
     unfolding put
-    put-here =
+    put_here =
         let front : List ℕ = take (32 * place) a in
         let rest : List ℕ = drop (32 * place + length r) a in
         ap (λ (l : List ℕ). take 32 (drop (32 * place) l)) (append_assoc front r rest)
         ∙ ap (take 32) (drop_at front (r ++ rest) (32 * place) (length-take-le (32 * place) a (omega arith))) ∙ take_at r rest 32 long
 
-    put-elsewhere : (p : ℕ) → (p ≡ place → ⊥) → message_at (put a (32 * place) r) p ≡ message_at a p
-    put-elsewhere p q = part_same a (put a (32 * place) r) (32 * p) 32 (length_put a r (32 * place) in-air) (λ i l. by i l (dec_lt p place))
+    put_elsewhere : (p : ℕ) → (p ≡ place → ⊥) → message_at (put a (32 * place) r) p ≡ message_at a p
+    put_elsewhere p q = part_same a (put a (32 * place) r) (32 * p) 32 (length_put a r (32 * place) in_air) (λ i l. by i l (dec_lt p place))
       where
         by : (i : ℕ) → i < 32 → Dec (p < place) → get_or (put a (32 * place) r) (32 * p + i) 0 ≡ get_or a (32 * p + i) 0
-        by i l (yes d) = put_before a r (32 * place) in-air (32 * p + i) (omega arith)
-        by i l (no d) = put_after a r (32 * place) in-air (32 * p + i) (omega (arith, q))
+        by i l (yes d) = put_before a r (32 * place) in_air (32 * p + i) (omega arith)
+        by i l (no d) = put_after a r (32 * place) in_air (32 * p + i) (omega (arith, q))
 
   posted_at : (p : ℕ) → (message_at (posted a place r) p ≡ r) ⊎ (message_at (posted a place r) p ≡ message_at a p)
   posted_at p = by (ltb place (length a / 32)) refl (ℕ_discrete p place)
@@ -168,8 +168,8 @@ module _ (a : List ℕ) (place : ℕ) (r : List ℕ) (long : length r ≡ 32) wh
       by : (t : Bool) → ltb place (length a / 32) ≡ t → Dec (p ≡ place)
           → (message_at (cond t (put a (32 * place) r) a) p ≡ r) ⊎ (message_at (cond t (put a (32 * place) r) a) p ≡ message_at a p)
       by false e d = inr refl
-      by true e (yes q) = inl (ap (message_at (put a (32 * place) r)) q ∙ put-here (ltb-true place (length a / 32) e))
-      by true e (no q) = inr (put-elsewhere (ltb-true place (length a / 32) e) p q)
+      by true e (yes q) = inl (ap (message_at (put a (32 * place) r)) q ∙ put_here (ltb-true place (length a / 32) e))
+      by true e (no q) = inr (put_elsewhere (ltb-true place (length a / 32) e) p q)
 
 -- ---- turns
 
@@ -243,9 +243,9 @@ module _ (v : State) (k r : List (List ℕ)) (a : List ℕ) (w : Linked v r a) w
   told_now message l t s e = by (ℕ_discrete s 0)
     where
       -- of 0
-      zero-too : s ≡ 0 → (z : Bool) → v.zero_sent ≡ z → (z || eqb l.taken 0) ≡ true → Among s (l.taken ∷ a)
-      zero-too is true q f = Among.tail (w.told s (ap (λ (t : Bool). cond t v.zero_sent (leb s v.ledger.taken)) (eq-eqb s 0 is) ∙ q))
-      zero-too is false q f = Among.head (is ∙ sym (eqb-true l.taken 0 f))
+      zero_too : s ≡ 0 → (z : Bool) → v.zero_sent ≡ z → (z || eqb l.taken 0) ≡ true → Among s (l.taken ∷ a)
+      zero_too is true q f = Among.tail (w.told s (ap (λ (t : Bool). cond t v.zero_sent (leb s v.ledger.taken)) (eq-eqb s 0 is) ∙ q))
+      zero_too is false q f = Among.head (is ∙ sym (eqb-true l.taken 0 f))
 
       -- of another serial
       another : (s ≡ 0 → ⊥) → s ≤ l.taken → Did v.ledger message l → Dec (s ≡ l.taken) → Among s (l.taken ∷ a)
@@ -259,7 +259,7 @@ module _ (v : State) (k r : List (List ℕ)) (a : List ℕ) (w : Linked v r a) w
 
       by : Dec (s ≡ 0) → Among s (l.taken ∷ a)
       by (yes q) =
-          zero-too q v.zero_sent refl
+          zero_too q v.zero_sent refl
           (sym (ap (λ (t : Bool). cond t (v.zero_sent || eqb l.taken 0) (leb s l.taken)) (eq-eqb s 0 q)) ∙ e)
       by (no n) =
           let h : leb s l.taken ≡ true = sym (ap (λ (t : Bool). cond t (v.zero_sent || eqb l.taken 0) (leb s l.taken)) (ne_eqb s 0 n)) ∙ e in

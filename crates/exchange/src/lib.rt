@@ -1,5 +1,7 @@
 // Runs a script of what happens between box and host: the box's calls, the records that it sends, and the messages and answers that arrive. Box and
 // host agree then, whatever the script lets the channel lose, repeat or bring out of order.
+#![tactic(auto)]
+
 ghost use Rattle.std.specs.Prelude.{◌≡◌, false, cond, ◌||◌, List, ℕ, ◌+◌, ◌/◌, ◌%◌, ◌≤◌, eqb, leb, length, take, drop, replicate};
 ghost use Rattle.reasons.specs.Reasons.{after};
 ghost use Rattle.slots.specs.Views.{Seen};
@@ -14,14 +16,14 @@ use ledger::{Ledger, Taken};
 use plays::{Totals, add, counted, play, play_release};
 
 // What it came to: the host's ledger, and the totals of the box's calls.
-#[derive(Drop)]
+#[derive(Clone, Copy)]
 pub struct Sums {
     pub ledger: Ledger,
     pub totals: Totals,
 }
 
 // The sums, or why no record was run: the script is no whole number of records, or it has too many for the totals.
-#[derive(Drop)]
+#[derive(Clone, Copy)]
 pub enum Exchanged {
     Ran(Sums),
     NotWhole,
@@ -29,7 +31,7 @@ pub enum Exchanged {
 }
 
 // After one record: the host's ledger, whether it has answered 0 by now, and the totals of that record's call.
-#[derive(Drop)]
+#[derive(Clone, Copy)]
 struct Step {
     ledger: Ledger,
     zero: bool,

@@ -47,6 +47,8 @@ one_outcome j t aside a d l m p q = (refl, p ∙ sym q)
 pub one_run : {j k l : List ℕ} {ds es : List Done} → Run j ds k → Run j es l → SameCalls ds es
     → map (λ (d : Done). d.clock) ds ≡ map (λ (d : Done). d.clock) es → (ds ≡ es) × (k ≡ l)
 one_run no_more no_more no_calls e = (refl, refl)
+one_run no_more (next f q off) h e = elim h [ ]
+one_run (next d p on) no_more h e = elim h [ ]
 one_run {j} {k} {l} (next d p on) (next f q off) (same_call {c = c} {t = t} {u = u} {a = a} {b = b} {k = m} {l = n} {ds = ds} {es = es} rest) e =
     let now : u ≡ t = cc in
     let later : map (λ (d : Done). d.clock) ds ≡ map (λ (d : Done). d.clock) es = cc in

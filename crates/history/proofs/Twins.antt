@@ -171,6 +171,8 @@ clocks_same j = record { size = refl; bytes = λ i h. refl }
 
 pub twins : {j k l m : List ℕ} {ds es : List Done} → SameButClocks j k → Run j ds l → Run k es m → SameCalls ds es → SameOutcomes ds es
 twins s no_more no_more no_calls = no_outcomes
+twins s no_more (next e q off) h = elim h [ ]
+twins s (next d p on) no_more h = elim h [ ]
 twins {j} {k} s (next d p on) (next e q off) (same_call {c = c} {t = t} {u = u} {a = a} {b = a'} {k = j'} {l = k'} rest) =
     let w = twin j k s t u c a a' j' k' p q in
     same_outcome w.0 w.1 (twins w.1 on off rest)

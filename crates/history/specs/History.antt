@@ -97,7 +97,7 @@ pub record HandsOut (j : List ℕ) (P : Bor (List ℕ) → Bor (List ℕ) → Ty
   pub lent : journal.now ≡ j
   pub part : Bor (List ℕ)
   pub promised : P journal part
-  pub place : part.ptr.1 ≡ journal.ptr.1 + p.at
+  pub place : part.ref_ptr.1 ≡ journal.ref_ptr.1 + p.at
   pub same : part.now ≡ p.bytes
 
 -- the promise of each call: what it allows as answer, made at a clock reading on a journal j, and as the journal's bytes k afterwards

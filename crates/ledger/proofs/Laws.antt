@@ -18,7 +18,7 @@ use Rattle.ledger.specs.Ledger.{HeldRecord, sound, opened, is_next, wants, moved
 use Rattle.ledger.specs.declared.Ledger.{Ledger}
 use Rattle.ledger.specs.declared.Taken.{Taken}
 use Rattle.ledger.specs.declared.Taken.TheVariants.{Now, Refused}
-use Rattle.ledger.proofs.Rule.{sound_is, is_sound, next-none, is_next_lem, foreign, unmoved, moves-on}
+use Rattle.ledger.proofs.Rule.{sound_is, is_sound, next-none, is_next_lem, foreign, unmoved, moves_on}
 
 -- ---- any two outcomes that a call allows are equal
 
@@ -78,7 +78,7 @@ pub held_taken : (l : Ledger) (message : List ℕ) (r : Taken) → HeldRecord me
 held_taken l message r h fine w = take_one l message r _ w (by (wants l message) refl)
   where
     by : (t : Bool) → wants l message ≡ t → Takes l message (Now (cond t (moved l message) l))
-    by true q = moves-on l message true (tells_yes h) refl fine (l.taken + 1) (amount_at message 0) (sym (is_next_lem l.taken (serial_at message 0) q).1) refl q
+    by true q = moves_on l message true (tells_yes h) refl fine (l.taken + 1) (amount_at message 0) (sym (is_next_lem l.taken (serial_at message 0) q).1) refl q
     by false q = unmoved l message true (tells_yes h) refl fine q
 
 -- "After the last serial it wants nothing and takes nothing more"

@@ -14,10 +14,10 @@ use Rattle.text.specs.Numbers.{u32_at, le16, le32}
 use Rattle.text.proofs.Numbers.{digit_small}
 use Rattle.slots.specs.Record.{held_state, kept, serial_at, state_at, Good, record32}
 use Rattle.slots.proofs.Ranges.{tells_yes}
-use Rattle.slots.proofs.Records.{amount_of_lem, record_held, record-long, good_new}
+use Rattle.slots.proofs.Records.{amount_of_lem, record_held, record_long, good_new}
 use Rattle.ledger.specs.Ledger.{HeldRecord, sound, is_next, Bytes, LedTo, at_first, by_message}
 use Rattle.ledger.specs.declared.Ledger.{Ledger}
-use Rattle.ledger.proofs.Rule.{sound_is, is_sound, next_is, moves-on}
+use Rattle.ledger.proofs.Rule.{sound_is, is_sound, next_is, moves_on}
 use Rattle.ledger.proofs.Laws.{opened-sound, stays_sound}
 
 -- ---- what messages lead to is sound
@@ -50,7 +50,7 @@ module _ (p a : ℕ) (next : p < 4294967295) (some : 0 < a) (small : a < 4294967
 
   held : HeldRecord the
   held = record {
-    size = record-long (suc p) 0 a 0 (replicate 13 48) refl;
+    size = record_long (suc p) 0 a 0 (replicate 13 48) refl;
     some = omega (arith, good.serial);
     good = subst (Good the 0) (sym good.serial) good;
     held = record_held (suc p) 0 a 0 (replicate 13 48);
@@ -77,7 +77,7 @@ module _ (p a : ℕ) (next : p < 4294967295) (some : 0 < a) (small : a < 4294967
   leads_on : (total : ℕ) → sound p total ≡ true → LedTo (record { taken = p; total = total }) → LedTo (record { taken = suc p; total = total + a })
   leads_on total fine before =
       by_message the before bytes
-      (moves-on (record { taken = p; total = total }) the true (tells_yes held) refl fine (suc p) a
+      (moves_on (record { taken = p; total = total }) the true (tells_yes held) refl fine (suc p) a
       (sym good.serial) (sym (amount_of_lem (suc p) 0 a 0 (replicate 13 48) small)) wanted)
 
 -- ---- what is sound, messages lead to

@@ -84,9 +84,9 @@ module _ (l : Ledger) (message : List ℕ) where
           says = sym (ap (λ (t : Bool). gives (cond t (moved l message) l)) h) ∙ given;
         }
 
-        pub moves-on : (serial amount : ℕ) → serial ≡ serial_at message 0 → amount ≡ amount_at message 0 → wants l message ≡ true
+        pub moves_on : (serial amount : ℕ) → serial ≡ serial_at message 0 → amount ≡ amount_at message 0 → wants l message ≡ true
             → Takes l message (Now (record { taken = serial; total = l.total + amount }))
-        moves-on serial amount es ea h = record {
+        moves_on serial amount es ea h = record {
           held = held;
           tells = tells;
           says = (λ i. gives (record { taken = (es ∙ (is_next_lem l.taken (serial_at message 0) h).1) i; total = l.total + ea i }))

@@ -1,4 +1,6 @@
 // The host's ledger: it takes the box's records one serial after another and adds up their amounts.
+#![tactic(auto)]
+
 ghost use Rattle.std.specs.Prelude.{◌≡◌};
 ghost use Rattle.slots.specs.Journal.{Tells};
 ghost use Rattle.ledger.specs.Ledger.{HeldRecord, sound, opened, is_next, Takes};
@@ -6,14 +8,14 @@ ghost use Rattle.ledger.specs.Ledger.{HeldRecord, sound, opened, is_next, Takes}
 use reasons::Reason;
 
 // The last serial taken, 0 for none, so that the next one is wanted; and the total. After a message that isn't refused the host answers `taken`.
-#[derive(Drop)]
+#[derive(Clone, Copy)]
 pub struct Ledger {
     pub taken: u32,
     pub total: u64,
 }
 
 // The ledger after a message, or why it was refused.
-#[derive(Drop)]
+#[derive(Clone, Copy)]
 pub enum Taken {
     Now(Ledger),
     Refused(Reason),

@@ -1,4 +1,6 @@
 // One record of a script of calls played, and the totals of calls. For the crates above: all of it is inner.
+#![tactic(auto)]
+
 ghost use Rattle.std.specs.Prelude.{◌≡◌, List, ℕ, min, ◌+◌, ◌≤◌, get_or, length};
 ghost use Rattle.payer.specs.Payer.{terms};
 ghost use Rattle.history.specs.History.{book, release};
@@ -13,7 +15,7 @@ use swipe::Swiped;
 
 // What calls came to: the payments booked and their amounts, those released and their amounts as the releases answered, the calls refused, and
 // the records that made no call.
-#[derive(Drop)]
+#[derive(Clone, Copy)]
 pub struct Totals {
     pub booked: u64,
     pub takings: u64,

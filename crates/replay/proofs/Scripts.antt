@@ -7,7 +7,6 @@ use native.Mathlib.Decide.{dec_le}
 use lib.ListN.{get_or, length, length-append, length-map}
 use Rattle.text.specs.Numbers.{u32_at}
 use Rattle.slots.specs.Journal.{Formed, NewestIs, slots_of, place}
-use Rattle.slots.specs.Views.{formed, newest}
 use Rattle.slots.specs.declared.Newest.TheVariants.{Is}
 use Rattle.held.specs.Held.{held_list, sum_of}
 use Rattle.held.proofs.Lists.{held_at_most, sum-append}

@@ -1,4 +1,6 @@
 // Replays a script of calls, one after another, and answers what they came to.
+#![tactic(auto)]
+
 ghost use Rattle.std.specs.Prelude.{◌≡◌, ℕ, ◌/◌, ◌%◌, ◌≤◌, length};
 ghost use Rattle.slots.specs.Journal.{NewestIs};
 ghost use Rattle.slots.specs.declared.Newest.TheVariants.{Is};
@@ -9,7 +11,7 @@ ghost use Rattle.replay.specs.Replay.{PlaysAll, Replays, Conserves};
 use plays::Totals;
 
 // The totals, or why no record was played: the script is no whole number of records, or it has too many for the totals.
-#[derive(Drop)]
+#[derive(Clone, Copy)]
 pub enum Replayed {
     Played(Totals),
     NotWhole,
