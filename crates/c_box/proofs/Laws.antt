@@ -40,8 +40,8 @@ pub journal_walk_one : (j : List ℕ) (above : ℕ) (x : ℕ × ℕ) (r q : ℕ)
 journal_walk_one j above x r q y z f g = let w = one_view j f g in hands_one w.1 w.2
 
 -- walk_start
-pub walk-start_one : (j : List ℕ) (x r q y z : ℕ) → WalkStarts j x r y → WalkStarts j x q z → (r ≡ q) × (y ≡ z)
-walk-start_one j x r q y z f g = let w = one_view j f g in hands_one w.1 w.2
+pub walk_start_one : (j : List ℕ) (x r q y z : ℕ) → WalkStarts j x r y → WalkStarts j x q z → (r ≡ q) × (y ≡ z)
+walk_start_one j x r q y z f g = let w = one_view j f g in hands_one w.1 w.2
 
 -- walk_step
 pub walk_step_one : (j : List ℕ) (serial : ℕ) (x : ℕ × ℕ) (r q : ℕ) (y z : ℕ × ℕ)

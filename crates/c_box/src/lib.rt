@@ -1,4 +1,6 @@
 // The C interface on the journal, the swipe and the host's ledger: each function calls the library's call and hands numbers over.
+#![tactic(auto)]
+
 mod hosts;
 mod journals;
 mod swipes;

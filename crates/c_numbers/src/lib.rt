@@ -1,4 +1,6 @@
 // The C interface on Luhn, card numbers and check pairs: each function calls the library's call and hands numbers over.
+#![tactic(auto)]
+
 mod accounts;
 mod cards;
 mod digits;

@@ -1,4 +1,6 @@
 // The C interface on the stripe: each function calls the library's call and hands numbers over.
+#![tactic(auto)]
+
 ghost use Rattle.std.specs.Prelude.{◌≡◌, ◌<◌};
 ghost use Rattle.bits.specs.Reading.{said};
 ghost use Rattle.track2.specs.Track2.{track2};

@@ -18,7 +18,7 @@ use Rattle.surveys.specs.Survey.{said_surveyed}
 use Rattle.swipe.specs.Swipe.{said_swiped}
 use Rattle.walker.specs.Walk.{held_here, held_rule, next_of}
 use Rattle.walker.specs.Steps.{walk_rule, start_rule, step_rule, Above, Onward}
-use Rattle.walker.proofs.Whole.{above_by, above_one, above_all, onward_by, onward_one, onward-all, anew}
+use Rattle.walker.proofs.Whole.{above_by, above_one, above_all, onward_by, onward_one, onward_all, anew}
 use Rattle.history.specs.History.{AnswerTo, Does, Done, Run, no_more, next, Demand3, SameAnswer}
 use Rattle.history.proofs.Laws.{demand_3}
 use Rattle.history.proofs.Twins.{clocks_same, twin}
@@ -81,6 +81,8 @@ program_keeps n l h ms j w = let r = program_run w in (r.0, r.1, demand_3 n l h 
 
 twin_programs : {i j k l : List ℕ} {ms ns : List Made} → SameButClocks i j → Program i ms k → Program j ns l → SameAsks ms ns → SameLeft ms ns
 twin_programs s no_call no_call no_asks = nothing_left
+twin_programs s no_call (one_call n q off) x = elim x [ ]
+twin_programs s (one_call m p on) no_call x = elim x [ ]
 twin_programs {i} {j} s (one_call m p on) (one_call n q off) (same_asks {a = a} {x = x} {y = y} {z = z} {t = t} {u = u} {r = r} {q = r'} {k = k} {l = l} rest) =
     let d = promised_does i t a x r y k p in
     let e = promised_does j u a x r' z l q in
@@ -135,7 +137,7 @@ module _ (j : List ℕ) (b : ℕ) (is : NewestIs j (Is b)) where
   -- gw_walk_start, and gw_walk_step until it says done: the same
   pub steps_held : b < 4294967296 → (x s : ℕ) → WalkStarts j x 0 s → Onward j (StepsTo j) s (held_list j b)
   steps_held fits x s w =
-      onward_by j (λ t y e. (y, gave _ _ _ y (sym e))) (onward-all j b is fits s (zero_gives _ x s (start-number j b) (known j b is w)))
+      onward_by j (λ t y e. (y, gave _ _ _ y (sym e))) (onward_all j b is fits s (zero_gives _ x s (start-number j b) (known j b is w)))
 
   pub steps_held_only : b < 4294967296 → (x s : ℕ) → WalkStarts j x 0 s → (rs : List (List ℕ)) → Onward j (StepsTo j) s rs → rs ≡ held_list j b
   steps_held_only fits x s w rs v =

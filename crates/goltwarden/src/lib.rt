@@ -1,5 +1,7 @@
 // The C interface (include/goltwarden.h): each function is exported here, as one call of the crate that has its code and its promise: `c_numbers`,
 // `c_stripe`, `c_box` or `version`.
+#![tactic(auto)]
+
 mod accounts;
 mod cards;
 mod digits;
