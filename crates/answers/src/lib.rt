@@ -1,8 +1,10 @@
 // The commands that keep nothing from line to line: on texts, and looks at the journal.
+#![tactic(auto)]
+
 use checks::texts;
 use journals::{memory, survey};
 use menu::{Command, Looking, OnGroups, OnStripe, OnText, Row};
-use say::fields;
+use say::{Output, fields};
 
 // ---- whether a line has a command and its words; where it hasn't, that is answered
 
@@ -18,7 +20,7 @@ fn has_gap(row: Row, line: &[u8]) -> bool {
     script::word(line, row.least - 1).len() == 0
 }
 
-fn has_count(out: &mut [u8], row: Row, n: usize) -> bool {
+fn has_count(out: &mut Output, row: Row, n: usize) -> bool {
     if n < row.least {
         fields::unclear(out, b"too few words");
         return false;
@@ -30,7 +32,7 @@ fn has_count(out: &mut [u8], row: Row, n: usize) -> bool {
     true
 }
 
-fn has_words(out: &mut [u8], row: Row, line: &[u8]) -> bool {
+fn has_words(out: &mut Output, row: Row, line: &[u8]) -> bool {
     if has_gap(row, line) {
         fields::unclear(out, b"an empty word (- stands for an empty text)");
         return false;
@@ -38,7 +40,7 @@ fn has_words(out: &mut [u8], row: Row, line: &[u8]) -> bool {
     has_count(out, row, script::operands(line))
 }
 
-pub fn is_clear(out: &mut [u8], row: Row, line: &[u8]) -> bool {
+pub fn is_clear(out: &mut Output, row: Row, line: &[u8]) -> bool {
     let c = row.command;
     if let Command::Unknown = c {
         menu::unknown(out, script::word(line, 0));
@@ -49,7 +51,7 @@ pub fn is_clear(out: &mut [u8], row: Row, line: &[u8]) -> bool {
 
 // ---- texts
 
-fn on_text(out: &mut [u8], c: OnText, line: &[u8]) {
+fn on_text(out: &mut Output, c: OnText, line: &[u8]) {
     let text = script::text_of(script::word(line, 1));
     match c {
         OnText::Luhn => texts::luhn_test(out, text),
@@ -59,7 +61,7 @@ fn on_text(out: &mut [u8], c: OnText, line: &[u8]) {
     }
 }
 
-fn on_solid(out: &mut [u8], c: OnGroups, line: &[u8], text: &[u8]) {
+fn on_solid(out: &mut Output, c: OnGroups, line: &[u8], text: &[u8]) {
     match c {
         OnGroups::Iban => texts::iban_test(out, text),
         OnGroups::IbanMake => texts::iban_make(out, script::text_of(script::word(line, 1)), text),
@@ -69,7 +71,7 @@ fn on_solid(out: &mut [u8], c: OnGroups, line: &[u8], text: &[u8]) {
 }
 
 // A text in groups starts at word k. What goes beyond 64 bytes is left out: it is too long all the same.
-fn on_groups(out: &mut [u8], c: OnGroups, line: &[u8], k: usize) {
+fn on_groups(out: &mut Output, c: OnGroups, line: &[u8], k: usize) {
     let mut room = [0u8; 64];
     let n = script::solid(script::from_word(line, k), &mut room);
     on_solid(out, c, line, script::text_of(text::piece(&room, 0, n)));
@@ -77,7 +79,7 @@ fn on_groups(out: &mut [u8], c: OnGroups, line: &[u8], k: usize) {
 
 // ---- the stripe
 
-fn on_stripe(out: &mut [u8], c: OnStripe, line: &[u8]) {
+fn on_stripe(out: &mut Output, c: OnStripe, line: &[u8]) {
     match c {
         OnStripe::Track(t) => tracks::track(out, t, line),
         OnStripe::Layout1 => tracks::layout1(out, line),
@@ -87,14 +89,14 @@ fn on_stripe(out: &mut [u8], c: OnStripe, line: &[u8]) {
 // ---- the journal
 
 // Whether the journal can't be used any more, which is answered.
-pub fn is_lost(out: &mut [u8], lost: bool) -> bool {
+pub fn is_lost(out: &mut Output, lost: bool) -> bool {
     if lost {
         say::words(out, b"disk error: no journal until the next start\n");
     }
     lost
 }
 
-fn look_at(out: &mut [u8], c: Looking, line: &[u8], journal: &[u8]) {
+fn look_at(out: &mut Output, c: Looking, line: &[u8], journal: &[u8]) {
     match c {
         Looking::Dump => memory::dump(out, journal),
         Looking::Survey => survey::survey(out, journal),
@@ -105,14 +107,14 @@ fn look_at(out: &mut [u8], c: Looking, line: &[u8], journal: &[u8]) {
     }
 }
 
-fn look(out: &mut [u8], c: Looking, line: &[u8], journal: &[u8], lost: bool) {
+fn look(out: &mut Output, c: Looking, line: &[u8], journal: &[u8], lost: bool) {
     if !is_lost(out, lost) {
         look_at(out, c, line, journal);
     }
 }
 
 // Answers a line that has its words; the commands that keep something have answers elsewhere.
-pub fn answer(out: &mut [u8], row: Row, line: &[u8], journal: &[u8], lost: bool) {
+pub fn answer(out: &mut Output, row: Row, line: &[u8], journal: &[u8], lost: bool) {
     let command = row.command;
     match command {
         Command::Text(c) => on_text(out, c, line),

@@ -1,7 +1,7 @@
 // The host's date.
 use dates::Date;
 use reasons::Tested;
-use say::fields;
+use say::{Output, fields};
 
 // Before the host has sent one: no real day, so that a swipe is refused with 23.
 pub fn none() -> Date {
@@ -13,7 +13,7 @@ pub fn none() -> Date {
 }
 
 // Keeps a date, or refuses it.
-fn keep(out: &mut [u8], date: Date, kept: Date) -> Date {
+fn keep(out: &mut Output, date: Date, kept: Date) -> Date {
     match dates::test(date) {
         Tested::Passes => {
             let numbers = [date.year as u64, date.month as u64, date.day as u64];
@@ -29,7 +29,7 @@ fn keep(out: &mut [u8], date: Date, kept: Date) -> Date {
 
 // Takes a date from a line. The answer is what is kept from now on: what was kept before where the line isn't understood or the date is
 // refused.
-pub fn take_in(out: &mut [u8], line: &[u8], kept: Date) -> Date {
+pub fn take_in(out: &mut Output, line: &[u8], kept: Date) -> Date {
     let year = fields::number(out, line, 1, 4294967295);
     let year_known = year.clear;
     if !year_known {

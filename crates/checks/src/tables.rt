@@ -1,9 +1,9 @@
 // The range tables of the site and the acquirer, and the look-up.
 use ranges::Found;
-use say::fields;
+use say::{Output, fields};
 
 // A table's records; bytes over are told too, since a look-up refuses such a table.
-fn records(out: &mut [u8], name: &[u8], length: usize) {
+fn records(out: &mut Output, name: &[u8], length: usize) {
     let numbers = [(length / 16) as u64, (length % 16) as u64];
     say::words(out, name);
     if length % 16 == 0 {
@@ -15,7 +15,7 @@ fn records(out: &mut [u8], name: &[u8], length: usize) {
 
 // Takes a table from a line. The answer is how many bytes of the buffer are in use from now on: those in use before where the
 // line isn't understood.
-pub fn take_in(out: &mut [u8], name: &[u8], line: &[u8], table: &mut [u8], used: usize) -> usize {
+pub fn take_in(out: &mut Output, name: &[u8], line: &[u8], table: &mut [u8], used: usize) -> usize {
     let filled = fields::bytes(out, line, table);
     let clear = filled.clear;
     if !clear {
@@ -26,14 +26,14 @@ pub fn take_in(out: &mut [u8], name: &[u8], line: &[u8], table: &mut [u8], used:
     n
 }
 
-fn record(out: &mut [u8], name: &[u8], at: usize, bytes: &[u8]) {
+fn record(out: &mut Output, name: &[u8], at: usize, bytes: &[u8]) {
     say::value(out, name, (at / 16) as u64);
     say::words(out, b" ");
     say::hex(out, bytes);
     say::line(out);
 }
 
-pub fn range(out: &mut [u8], site: &[u8], acquirer: &[u8], pan: &[u8]) {
+pub fn range(out: &mut Output, site: &[u8], acquirer: &[u8], pan: &[u8]) {
     match ranges::find(site, acquirer, pan) {
         Found::Site(at) => record(out, b"site ", at, text::piece(site, at, 16)),
         Found::Acquirer(at) => record(out, b"acquirer ", at, text::piece(acquirer, at, 16)),

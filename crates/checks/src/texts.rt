@@ -2,12 +2,13 @@
 use luhn::Made as Digit;
 use mod97::Made;
 use reasons::Tested;
+use say::Output;
 
-pub fn luhn_test(out: &mut [u8], text: &[u8]) {
+pub fn luhn_test(out: &mut Output, text: &[u8]) {
     say::tested(out, luhn::test(text));
 }
 
-pub fn luhn_make(out: &mut [u8], body: &[u8]) {
+pub fn luhn_make(out: &mut Output, body: &[u8]) {
     match luhn::make(body) {
         Digit::Digit(b) => {
             let digit = [b];
@@ -18,12 +19,12 @@ pub fn luhn_make(out: &mut [u8], body: &[u8]) {
     }
 }
 
-pub fn iban_test(out: &mut [u8], text: &[u8]) {
+pub fn iban_test(out: &mut Output, text: &[u8]) {
     say::tested(out, iban::test(text));
 }
 
 // A check pair, two digits.
-fn pair(out: &mut [u8], n: u32) {
+fn pair(out: &mut Output, n: u32) {
     if n < 10 {
         say::value(out, b"pair 0", n as u64);
     } else {
@@ -31,7 +32,7 @@ fn pair(out: &mut [u8], n: u32) {
     }
 }
 
-fn made(out: &mut [u8], m: Made) {
+fn made(out: &mut Output, m: Made) {
     match m {
         Made::Pair(n) => {
             pair(out, n);
@@ -41,19 +42,19 @@ fn made(out: &mut [u8], m: Made) {
     }
 }
 
-pub fn iban_make(out: &mut [u8], country: &[u8], body: &[u8]) {
+pub fn iban_make(out: &mut Output, country: &[u8], body: &[u8]) {
     made(out, iban::make(country, body));
 }
 
-pub fn creditor_test(out: &mut [u8], text: &[u8]) {
+pub fn creditor_test(out: &mut Output, text: &[u8]) {
     say::tested(out, creditor::test(text));
 }
 
-pub fn creditor_make(out: &mut [u8], body: &[u8]) {
+pub fn creditor_make(out: &mut Output, body: &[u8]) {
     made(out, creditor::make(body));
 }
 
-pub fn mask(out: &mut [u8], pan: &[u8]) {
+pub fn mask(out: &mut Output, pan: &[u8]) {
     let mut masked = [0u8; 19];
     match pan::mask(pan, &mut masked) {
         Tested::Passes => {

@@ -1,22 +1,26 @@
 // Line after line: which command it is, and who answers it.
+#![tactic(auto)]
+
 ghost use Rattle.std.specs.Prelude.{◌≤◌, length};
 
 use keeping::State;
 use lines::Source;
 use menu::{Command, Row};
-use say::fields;
+use say::{Output, fields};
+use std::io::Stdin;
+use waiting::Streams;
 
 // ---- a line
 
 // Answers a line whose command keeps nothing.
-fn answer_only(out: &mut [u8], row: Row, line: &[u8], journal: &[u8], st: State) -> State {
+fn answer_only(out: &mut Output, row: Row, line: &[u8], journal: &[u8], st: State) -> State {
     answers::answer(out, row, line, text::piece(journal, 0, st.length), st.lost);
     st
 }
 
 // Answers a line, and says what is kept from now on.
 fn answer(
-    out: &mut [u8],
+    out: &mut Output,
     line: &[u8],
     site: &mut [u8],
     acquirer: &mut [u8],
@@ -49,7 +53,7 @@ fn asks_nothing(line: &[u8]) -> bool {
 }
 
 // Shows a line, where lines are shown.
-fn show(out: &mut [u8], line: &[u8], end: &[u8], shown: bool) {
+fn show(out: &mut Output, line: &[u8], end: &[u8], shown: bool) {
     if !shown {
         return;
     }
@@ -59,7 +63,7 @@ fn show(out: &mut [u8], line: &[u8], end: &[u8], shown: bool) {
 
 // Answers a line as it was typed.
 fn take_typed(
-    out: &mut [u8],
+    out: &mut Output,
     typed: &[u8],
     site: &mut [u8],
     acquirer: &mut [u8],
@@ -85,7 +89,7 @@ fn take_typed(
 
 // Answers a line that was taken, at the front of its buffer.
 fn take_line(
-    out: &mut [u8],
+    out: &mut Output,
     taken: Source,
     line: &[u8],
     site: &mut [u8],
@@ -112,14 +116,21 @@ fn take_line(
 
 // ---- the run
 
-fn ask(out: &mut [u8], prompt: bool) {
+fn ask(out: &mut Output, prompt: bool) {
     if prompt {
         say::words(out, b"> ");
     }
 }
 
 // Takes the next line once what waits is written; where that can't be, no line is left to take.
-fn next_line(out: &mut [u8], input: &mut [u8], line: &mut [u8], s: Source, prompt: bool) -> Source
+fn next_line(
+    out: &mut Output,
+    from: Stdin,
+    input: &mut [u8],
+    line: &mut [u8],
+    s: Source,
+    prompt: bool,
+) -> Source
     requires { (s.at ≤ s.end) × (s.end ≤ length input.old) }
     ensures { (result.at ≤ result.end) × (result.end ≤ length input.new) }
 {
@@ -129,11 +140,12 @@ fn next_line(out: &mut [u8], input: &mut [u8], line: &mut [u8], s: Source, promp
         none.ended = true;
         return none;
     }
-    lines::next(input, line, s)
+    lines::next(from, input, line, s)
 }
 
 fn take_lines(
-    out: &mut [u8; 65544],
+    out: &mut Output,
+    from: Stdin,
     input: &mut [u8; 65536],
     line: &mut [u8; 180000],
     site: &mut [u8; 70000],
@@ -147,7 +159,7 @@ fn take_lines(
     let mut turns = u64::MAX;
     while 0 < turns {
         turns -= 1;
-        source = next_line(out, input, line, source, st.prompt);
+        source = next_line(out, from, input, line, source, st.prompt);
         let ended = source.ended;
         if ended {
             break;
@@ -158,8 +170,8 @@ fn take_lines(
 
 // Answers standard input to its end, line by line. Each answer is written before the next line is read; once one can't be, no line is taken,
 // so that no payment is taken that nobody hears of.
-pub fn run(journal: &mut [u8], first: State) {
-    let mut out = [0u8; 65544];
+pub fn run(streams: Streams, journal: &mut [u8], first: State) {
+    let mut out = waiting::nothing(streams);
     let mut input = [0u8; 65536];
     let mut line = [0u8; 180000];
     let mut site = [0u8; 70000];
@@ -167,6 +179,7 @@ pub fn run(journal: &mut [u8], first: State) {
     let mut hot = [0u64; 8192];
     take_lines(
         &mut out,
+        streams.input,
         &mut input,
         &mut line,
         &mut site,

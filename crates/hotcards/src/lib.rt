@@ -1,13 +1,15 @@
 // The commands of the hot list: a list from a line, and whether a card is on the one that is kept.
+#![tactic(auto)]
+
 ghost use Rattle.std.specs.Prelude.{◌≤◌, length};
 
 use hotlist::Found;
 use reasons::Reason;
-use say::fields;
 use say::fields::Filled;
+use say::{Output, fields};
 
 // The list that is kept: how many numbers of its buffer are in use, and the PAN length.
-#[derive(Drop)]
+#[derive(Clone, Copy)]
 pub struct Kept {
     pub count: usize,
     pub digits: u32,
@@ -44,7 +46,7 @@ fn put(x: u64, room: &mut [u64], n: usize) -> usize
 }
 
 // The numbers that words write, into the front of the room. Those beyond it are read too, and not kept.
-fn numbers(out: &mut [u8], words: &[u8], room: &mut [u64]) -> Filled
+fn numbers(out: &mut Output, words: &[u8], room: &mut [u64]) -> Filled
     ensures { result.length ≤ length room.new }
 {
     let mut n = 0;
@@ -74,7 +76,13 @@ fn copy(numbers: &[u64], list: &mut [u64; 8192])
 }
 
 // Keeps numbers as the list, or refuses them.
-fn keep(out: &mut [u8], numbers: &[u64], digits: u32, list: &mut [u64; 8192], kept: Kept) -> Kept {
+fn keep(
+    out: &mut Output,
+    numbers: &[u64],
+    digits: u32,
+    list: &mut [u64; 8192],
+    kept: Kept,
+) -> Kept {
     if !hotlist::inner::list_ok(numbers, digits) {
         say::refused(out, Reason::BadHotList);
         return kept;
@@ -88,7 +96,7 @@ fn keep(out: &mut [u8], numbers: &[u64], digits: u32, list: &mut [u64; 8192], ke
 
 // Takes a list from a line. The answer is what is kept from now on: what was kept before where the line isn't understood or the list is
 // refused. The room holds one number more than a list may have: enough to refuse a longer one.
-pub fn take_in(out: &mut [u8], line: &[u8], list: &mut [u64; 8192], kept: Kept) -> Kept {
+pub fn take_in(out: &mut Output, line: &[u8], list: &mut [u64; 8192], kept: Kept) -> Kept {
     let digits = fields::number(out, line, 1, 4294967295);
     let digits_known = digits.clear;
     if !digits_known {
@@ -106,7 +114,7 @@ pub fn take_in(out: &mut [u8], line: &[u8], list: &mut [u64; 8192], kept: Kept) 
 
 // ---- a card
 
-pub fn listed(out: &mut [u8], list: &[u64], digits: u32, pan: &[u8]) {
+pub fn listed(out: &mut Output, list: &[u64], digits: u32, pan: &[u8]) {
     match hotlist::find(list, digits, pan) {
         Found::Listed => say::words(out, b"yes\n"),
         Found::Unlisted => say::words(out, b"no\n"),

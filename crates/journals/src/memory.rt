@@ -2,8 +2,8 @@
 ghost use Rattle.std.specs.Prelude.{◌+◌, ◌*◌, ◌≤◌, ◌<◌, length};
 
 use crate::survey;
-use say::fields;
 use say::fields::Filled;
+use say::{Output, fields};
 
 fn zero(journal: &mut [u8]) {
     let mut i = 0;
@@ -13,18 +13,18 @@ fn zero(journal: &mut [u8]) {
     }
 }
 
-fn so_many(out: &mut [u8], n: u64) {
+fn so_many(out: &mut Output, n: u64) {
     let count = [n];
     say::sentence(out, b"slots #\n", &count);
 }
 
-fn no_count(out: &mut [u8]) -> Filled {
+fn no_count(out: &mut Output) -> Filled {
     fields::unclear(out, b"slots are 1 to 2048");
     fields::fills_none()
 }
 
 // A journal of n empty slots, where there can be so many.
-fn empty(out: &mut [u8], n: u64, journal: &mut [u8]) -> Filled {
+fn empty(out: &mut Output, n: u64, journal: &mut [u8]) -> Filled {
     if n == 0 {
         return no_count(out);
     }
@@ -37,7 +37,7 @@ fn empty(out: &mut [u8], n: u64, journal: &mut [u8]) -> Filled {
 }
 
 // A new, empty journal: how many bytes it has.
-pub fn slots(out: &mut [u8], line: &[u8], journal: &mut [u8]) -> Filled {
+pub fn slots(out: &mut Output, line: &[u8], journal: &mut [u8]) -> Filled {
     let field = fields::number(out, line, 1, 4294967295);
     let clear = field.clear;
     if !clear {
@@ -47,7 +47,7 @@ pub fn slots(out: &mut [u8], line: &[u8], journal: &mut [u8]) -> Filled {
 }
 
 // A journal with the bytes of a line: how many they are. It is surveyed at once.
-pub fn load(out: &mut [u8], line: &[u8], journal: &mut [u8]) -> Filled {
+pub fn load(out: &mut Output, line: &[u8], journal: &mut [u8]) -> Filled {
     let filled = fields::bytes(out, line, journal);
     let clear = filled.clear;
     let n = filled.length;
@@ -59,7 +59,7 @@ pub fn load(out: &mut [u8], line: &[u8], journal: &mut [u8]) -> Filled {
 
 // ---- one slot
 
-fn put_slot(out: &mut [u8], journal: &mut [u8], k: usize, bytes: &[u8; 32])
+fn put_slot(out: &mut Output, journal: &mut [u8], k: usize, bytes: &[u8; 32])
     requires { (32 * k + 32 ≤ length journal.old) × (k ≤ 4294967295) }
 {
     text::put_at(journal, 32 * k, bytes);
@@ -68,7 +68,7 @@ fn put_slot(out: &mut [u8], journal: &mut [u8], k: usize, bytes: &[u8; 32])
 }
 
 // The 32 bytes of a line into slot k.
-fn fill_slot(out: &mut [u8], line: &[u8], journal: &mut [u8], k: usize)
+fn fill_slot(out: &mut Output, line: &[u8], journal: &mut [u8], k: usize)
     requires { (32 * k + 32 ≤ length journal.old) × (k ≤ 4294967295) }
 {
     let mut bytes = [0u8; 32];
@@ -85,7 +85,7 @@ fn fill_slot(out: &mut [u8], line: &[u8], journal: &mut [u8], k: usize)
 }
 
 // The bytes of a line into the slot that it names.
-pub fn slot(out: &mut [u8], line: &[u8], journal: &mut [u8]) {
+pub fn slot(out: &mut Output, line: &[u8], journal: &mut [u8]) {
     let field = fields::number(out, line, 1, 4294967295);
     let clear = field.clear;
     if !clear {
@@ -102,7 +102,7 @@ pub fn slot(out: &mut [u8], line: &[u8], journal: &mut [u8]) {
 // ---- dump
 
 // The line of a slot that isn't all zero.
-fn used(out: &mut [u8], k: usize, bytes: &[u8]) {
+fn used(out: &mut Output, k: usize, bytes: &[u8]) {
     if slots::zeros(bytes, 0, bytes.len()) {
         return;
     }
@@ -112,7 +112,7 @@ fn used(out: &mut [u8], k: usize, bytes: &[u8]) {
     say::line(out);
 }
 
-fn used_slots(out: &mut [u8], journal: &[u8]) {
+fn used_slots(out: &mut Output, journal: &[u8]) {
     let mut k = 0;
     while k < journal.len() / 32 {
         used(out, k, text::piece(journal, 32 * k, 32));
@@ -121,7 +121,7 @@ fn used_slots(out: &mut [u8], journal: &[u8]) {
 }
 
 // The journal as lines that can be given back.
-pub fn dump(out: &mut [u8], journal: &[u8]) {
+pub fn dump(out: &mut Output, journal: &[u8]) {
     let n = journal.len();
     if !slots::is_sized(n) {
         survey::wrong_length(out, n);

@@ -2,9 +2,10 @@
 ghost use Rattle.std.specs.Prelude.{◌≤◌, length};
 
 use reasons::Reason;
+use say::Output;
 use surveys::Surveyed;
 
-fn length_of(out: &mut [u8], n: usize) {
+fn length_of(out: &mut Output, n: usize) {
     if 65536 < n {
         say::words(out, b" (over 65536");
     } else {
@@ -13,7 +14,7 @@ fn length_of(out: &mut [u8], n: usize) {
 }
 
 // Refuses a journal of a wrong length, and says how many bytes it has.
-pub fn wrong_length(out: &mut [u8], n: usize) {
+pub fn wrong_length(out: &mut Output, n: usize) {
     say::refusal(out, Reason::BadJournal);
     length_of(out, n);
     say::words(
@@ -36,7 +37,7 @@ fn how_many(states: &[u8], x: u8) -> usize {
 }
 
 // The line of slot k, where it is damaged.
-fn damaged_slot(out: &mut [u8], journal: &[u8], k: usize, state: u8)
+fn damaged_slot(out: &mut Output, journal: &[u8], k: usize, state: u8)
     requires { k ≤ 2048 }
 {
     if state != 3 {
@@ -48,7 +49,7 @@ fn damaged_slot(out: &mut [u8], journal: &[u8], k: usize, state: u8)
     say::line(out);
 }
 
-fn damaged(out: &mut [u8], journal: &[u8], states: &[u8])
+fn damaged(out: &mut Output, journal: &[u8], states: &[u8])
     requires { length states.now ≤ 2048 }
 {
     let mut k = 0;
@@ -58,7 +59,7 @@ fn damaged(out: &mut [u8], journal: &[u8], states: &[u8])
     }
 }
 
-fn counts(out: &mut [u8], states: &[u8]) {
+fn counts(out: &mut Output, states: &[u8]) {
     let numbers = [
         how_many(states, 0) as u64,
         how_many(states, 1) as u64,
@@ -69,7 +70,7 @@ fn counts(out: &mut [u8], states: &[u8]) {
 }
 
 // Ends a line with whether the journal is well formed.
-pub fn verdict(out: &mut [u8], well: bool) {
+pub fn verdict(out: &mut Output, well: bool) {
     if well {
         say::words(out, b" well formed\n");
     } else {
@@ -77,7 +78,7 @@ pub fn verdict(out: &mut [u8], well: bool) {
     }
 }
 
-fn report(out: &mut [u8], journal: &[u8], states: &[u8], well: bool)
+fn report(out: &mut Output, journal: &[u8], states: &[u8], well: bool)
     requires { length states.now ≤ 2048 }
 {
     damaged(out, journal, states);
@@ -98,7 +99,7 @@ fn surveyed<'a>(journal: &[u8], states: &'a [u8]) -> &'a [u8]
 }
 
 // 2,048 states are enough for any journal, so that nothing but its length is refused.
-fn survey_in(out: &mut [u8], journal: &[u8], states: &mut [u8])
+fn survey_in(out: &mut Output, journal: &[u8], states: &mut [u8])
     requires { length states.old ≤ 2048 }
 {
     match surveys::survey(journal, states) {
@@ -108,7 +109,7 @@ fn survey_in(out: &mut [u8], journal: &[u8], states: &mut [u8])
     }
 }
 
-pub fn survey(out: &mut [u8], journal: &[u8]) {
+pub fn survey(out: &mut Output, journal: &[u8]) {
     let mut states = [0u8; 2048];
     survey_in(out, journal, &mut states);
 }

@@ -1,4 +1,6 @@
 // The commands that keep something from line to line: the tables, the hot list, the host's date, the journal, the host's ledger.
+#![tactic(auto)]
+
 ghost use Rattle.std.specs.Prelude.{◌≤◌, length};
 
 use checks::{calendar, tables};
@@ -8,8 +10,9 @@ use journals::memory;
 use ledger::Ledger;
 use menu::{Changing, Filling, OnHot, OnLedger, OnTables};
 use payments::Place;
-use say::fields;
 use say::fields::Filled;
+use say::{Output, fields};
+use std::fs::File;
 
 // What is kept from command to command.
 #[derive(Drop)]
@@ -22,9 +25,8 @@ pub struct State {
     pub hot: Kept,
     // the host's date
     pub date: Date,
-    // whether the journal is a file, its descriptor, whether that is for reading alone, and whether it can't be used any more
-    pub filed: bool,
-    pub fd: i32,
+    // the journal's file, where it is one, whether that is for reading alone, and whether it can't be used any more
+    pub file: Option<File>,
     pub read_only: bool,
     pub lost: bool,
     // the host's ledger
@@ -44,8 +46,7 @@ pub fn in_memory(shown: bool) -> State
         length: 65536,
         hot: hotcards::none(),
         date: calendar::none(),
-        filed: false,
-        fd: -1,
+        file: None,
         read_only: false,
         lost: false,
         ledger: ledger::fresh(),
@@ -57,7 +58,7 @@ pub fn in_memory(shown: bool) -> State
 // ---- tables
 
 pub fn on_tables(
-    out: &mut [u8],
+    out: &mut Output,
     c: OnTables,
     line: &[u8],
     site: &mut [u8],
@@ -91,7 +92,7 @@ pub fn on_tables(
 
 // ---- the hot list
 
-pub fn on_hot(out: &mut [u8], c: OnHot, line: &[u8], hot: &mut [u64; 8192], st: State) -> State {
+pub fn on_hot(out: &mut Output, c: OnHot, line: &[u8], hot: &mut [u64; 8192], st: State) -> State {
     let kept = st.hot;
     let mut next = st;
     match c {
@@ -109,7 +110,7 @@ pub fn on_hot(out: &mut [u8], c: OnHot, line: &[u8], hot: &mut [u64; 8192], st: 
 
 // ---- the host's date
 
-pub fn on_date(out: &mut [u8], line: &[u8], st: State) -> State {
+pub fn on_date(out: &mut Output, line: &[u8], st: State) -> State {
     let kept = st.date;
     let mut next = st;
     next.date = calendar::take_in(out, line, kept);
@@ -126,14 +127,14 @@ fn in_use(journal: &[u8], n: usize) -> usize
 }
 
 // Puts bytes into a slot of the n bytes in use, whose number stays.
-fn fill_slot(out: &mut [u8], line: &[u8], journal: &mut [u8], n: usize) -> Filled {
+fn fill_slot(out: &mut Output, line: &[u8], journal: &mut [u8], n: usize) -> Filled {
     let used = in_use(journal, n);
     memory::slot(out, line, &mut journal[0..used]);
     fields::fills(n)
 }
 
 // A journal's bytes in memory: so many empty slots, those of a line, or a slot of them.
-fn fill(out: &mut [u8], c: Filling, line: &[u8], journal: &mut [u8], n: usize) -> Filled {
+fn fill(out: &mut Output, c: Filling, line: &[u8], journal: &mut [u8], n: usize) -> Filled {
     match c {
         Filling::Slots => memory::slots(out, line, journal),
         Filling::Journal => {
@@ -145,8 +146,8 @@ fn fill(out: &mut [u8], c: Filling, line: &[u8], journal: &mut [u8], n: usize) -
     }
 }
 
-pub fn in_place(out: &mut [u8], c: Filling, line: &[u8], journal: &mut [u8], st: State) -> State {
-    let filed = st.filed;
+pub fn in_place(out: &mut Output, c: Filling, line: &[u8], journal: &mut [u8], st: State) -> State {
+    let filed = st.file.is_some();
     if filed {
         fields::unclear(out, b"the journal is a file");
         return st;
@@ -163,7 +164,7 @@ pub fn in_place(out: &mut [u8], c: Filling, line: &[u8], journal: &mut [u8], st:
 
 // A command that changes the journal, lent its bytes alone: whether the journal can be used any more.
 fn change_in(
-    out: &mut [u8],
+    out: &mut Output,
     c: Changing,
     line: &[u8],
     site: &[u8],
@@ -172,7 +173,7 @@ fn change_in(
     digits: u32,
     date: Date,
     journal: &mut [u8],
-    at: Place,
+    at: Place<'_>,
 ) -> bool {
     match c {
         Changing::Book => payments::book(out, line, journal, at),
@@ -184,7 +185,7 @@ fn change_in(
 }
 
 // Whether the journal can't be changed, which is answered.
-fn is_fixed(out: &mut [u8], lost: bool, read_only: bool) -> bool {
+fn is_fixed(out: &mut Output, lost: bool, read_only: bool) -> bool {
     if answers::is_lost(out, lost) {
         return true;
     }
@@ -195,7 +196,7 @@ fn is_fixed(out: &mut [u8], lost: bool, read_only: bool) -> bool {
 }
 
 pub fn change(
-    out: &mut [u8],
+    out: &mut Output,
     c: Changing,
     line: &[u8],
     site: &[u8],
@@ -208,8 +209,7 @@ pub fn change(
         return st;
     }
     let at = Place {
-        filed: st.filed,
-        fd: st.fd,
+        file: st.file.as_ref(),
     };
     let kept = st.hot;
     let date = st.date;
@@ -233,7 +233,7 @@ pub fn change(
 
 // ---- the host's ledger
 
-pub fn on_ledger(out: &mut [u8], c: OnLedger, line: &[u8], st: State) -> State {
+pub fn on_ledger(out: &mut Output, c: OnLedger, line: &[u8], st: State) -> State {
     let ledger = st.ledger;
     let mut next = st;
     match c {

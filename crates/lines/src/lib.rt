@@ -1,12 +1,14 @@
 // Standard input, line by line.
+#![tactic(auto)]
+
 ghost use Rattle.std.specs.Prelude.{◌≤◌, ◌<◌, length};
 ghost use Rattle.lines.specs.Lines.{Within};
 
-use libc::STDIN_FILENO;
+use std::io::{Read, Stdin};
 
 // Which bytes of the input's buffer are still to be taken, and the line so far: its length, whether it is too long for its
 // buffer, whether it has begun, whether it is whole, and whether there is none, the input having ended.
-#[derive(Drop)]
+#[derive(Clone, Copy)]
 pub struct Source {
     pub at: usize,
     pub end: usize,
@@ -53,12 +55,19 @@ fn put(b: u8, line: &mut [u8], s: Source) -> Source
     next
 }
 
+// Takes what can be read now into the front of the input's buffer: how many bytes that are, 0 at the input's end. A read that fails is its end.
+fn taken(from: Stdin, input: &mut [u8]) -> usize
+    ensures { result ≤ length input.new }
+{
+    let mut stdin = from;
+    stdin.read(input).unwrap_or(0)
+}
+
 // Fills the input's buffer anew; at its end what was begun is the last line.
-fn refill(input: &mut [u8], s: Source) -> Source
+fn refill(from: Stdin, input: &mut [u8], s: Source) -> Source
     ensures { (result.at ≤ result.end) × (result.end ≤ length input.new) × (result.length ≤ s.length) }
 {
-    let got = libc::read(STDIN_FILENO, input);
-    let n = io::count(got, input);
+    let n = taken(from, input);
     let mut next = s;
     next.at = 0;
     next.end = n;
@@ -71,7 +80,7 @@ fn refill(input: &mut [u8], s: Source) -> Source
 }
 
 // One step: a byte is taken, or the buffer is filled.
-fn step(input: &mut [u8], line: &mut [u8], s: Source) -> Source
+fn step(from: Stdin, input: &mut [u8], line: &mut [u8], s: Source) -> Source
     requires { Within input.old line.old s }
     ensures { Within input.new line.new result }
 {
@@ -82,11 +91,11 @@ fn step(input: &mut [u8], line: &mut [u8], s: Source) -> Source
         next.at = at + 1;
         return put(input[at], line, next);
     }
-    refill(input, s)
+    refill(from, input, s)
 }
 
 // Takes the next line, without the byte that ends it. No run uses up the steps.
-pub fn next(input: &mut [u8], line: &mut [u8], s: Source) -> Source
+pub fn next(from: Stdin, input: &mut [u8], line: &mut [u8], s: Source) -> Source
     requires { (s.at ≤ s.end) × (s.end ≤ length input.old) }
     ensures { Within input.new line.new result }
 {
@@ -94,7 +103,7 @@ pub fn next(input: &mut [u8], line: &mut [u8], s: Source) -> Source
     let mut steps = u64::MAX;
     while 0 < steps {
         steps -= 1;
-        here = step(input, line, here);
+        here = step(from, input, line, here);
         let whole = here.whole;
         if whole {
             return here;

@@ -1,8 +1,10 @@
 // The commands on held payments: one shown, what they come to, and all of them listed.
+#![tactic(auto)]
+
 ghost use Rattle.std.specs.Prelude.{◌≤◌, length};
 
 use held::{Shown, Told};
-use say::fields;
+use say::{Output, fields};
 
 // How many digits of a PAN of n digits its masked text hides.
 fn hidden(n: u8) -> usize {
@@ -13,7 +15,7 @@ fn hidden(n: u8) -> usize {
 }
 
 // The masked text of a record's card.
-fn masked(out: &mut [u8], bytes: &[u8]) {
+fn masked(out: &mut Output, bytes: &[u8]) {
     if bytes.len() < 32 {
         return;
     }
@@ -24,7 +26,7 @@ fn masked(out: &mut [u8], bytes: &[u8]) {
 
 // ---- show
 
-fn numbers(out: &mut [u8], bytes: &[u8])
+fn numbers(out: &mut Output, bytes: &[u8])
     requires { 32 ≤ length bytes.now }
 {
     let values = [
@@ -37,7 +39,7 @@ fn numbers(out: &mut [u8], bytes: &[u8])
 }
 
 // A record, its bytes and what they say.
-fn record(out: &mut [u8], bytes: &[u8]) {
+fn record(out: &mut Output, bytes: &[u8]) {
     if bytes.len() < 32 {
         return;
     }
@@ -48,14 +50,14 @@ fn record(out: &mut [u8], bytes: &[u8]) {
     say::line(out);
 }
 
-fn show_in(out: &mut [u8], journal: &[u8], serial: u32) {
+fn show_in(out: &mut Output, journal: &[u8], serial: u32) {
     match held::find(journal, serial) {
         Shown::At(at) => record(out, text::piece(journal, at, 32)),
         Shown::Refused(why) => say::refused(out, why),
     }
 }
 
-pub fn show(out: &mut [u8], line: &[u8], journal: &[u8]) {
+pub fn show(out: &mut Output, line: &[u8], journal: &[u8]) {
     let serial = fields::number(out, line, 1, 4294967295);
     let known = serial.clear;
     if known {
@@ -74,12 +76,12 @@ fn left(journal: &[u8], held: u32) -> u64 {
     slots - held as u64
 }
 
-fn told(out: &mut [u8], count: u32, sum: u64, oldest: u32, newest: u32, left: u64) {
+fn told(out: &mut Output, count: u32, sum: u64, oldest: u32, newest: u32, left: u64) {
     let numbers = [count as u64, sum, oldest as u64, newest as u64, left];
     say::sentence(out, b"held # # oldest # newest # left #\n", &numbers);
 }
 
-pub fn tell(out: &mut [u8], journal: &[u8]) {
+pub fn tell(out: &mut Output, journal: &[u8]) {
     match held::tell(journal) {
         Told::Held(count, sum, oldest, newest) => told(
             out,
@@ -96,7 +98,7 @@ pub fn tell(out: &mut [u8], journal: &[u8]) {
 // ---- held
 
 // Its serial and amount, before the card.
-fn front(out: &mut [u8], bytes: &[u8])
+fn front(out: &mut Output, bytes: &[u8])
     requires { 32 ≤ length bytes.now }
 {
     let numbers = [text::u32_at(bytes, 0) as u64, text::u32_at(bytes, 8) as u64];
@@ -104,7 +106,7 @@ fn front(out: &mut [u8], bytes: &[u8])
 }
 
 // Its clock and label, behind the card.
-fn back(out: &mut [u8], bytes: &[u8])
+fn back(out: &mut Output, bytes: &[u8])
     requires { 32 ≤ length bytes.now }
 {
     let numbers = [
@@ -115,7 +117,7 @@ fn back(out: &mut [u8], bytes: &[u8])
 }
 
 // Writes the line of a held record, and none for the empty part: how many lines that were.
-fn entry(out: &mut [u8], bytes: &[u8]) -> u64
+fn entry(out: &mut Output, bytes: &[u8]) -> u64
     ensures { result ≤ 1 }
 {
     if bytes.len() < 32 {
@@ -128,7 +130,7 @@ fn entry(out: &mut [u8], bytes: &[u8]) -> u64
 }
 
 // Lists the held records from the oldest on, by steps of a walk: how many there were. A walk that is done stays done.
-fn list(out: &mut [u8], journal: &[u8], oldest: u32) -> u64 {
+fn list(out: &mut Output, journal: &[u8], oldest: u32) -> u64 {
     let mut count: u64 = 0;
     let mut serial = oldest;
     let mut steps = journal.len() / 32;
@@ -140,12 +142,12 @@ fn list(out: &mut [u8], journal: &[u8], oldest: u32) -> u64 {
     count
 }
 
-fn listed(out: &mut [u8], journal: &[u8], oldest: u32) {
+fn listed(out: &mut Output, journal: &[u8], oldest: u32) {
     let count = [list(out, journal, oldest)];
     say::sentence(out, b"done #\n", &count);
 }
 
-pub fn held(out: &mut [u8], journal: &[u8]) {
+pub fn held(out: &mut Output, journal: &[u8]) {
     match held::tell(journal) {
         Told::Held(_, _, oldest, _) => listed(out, journal, oldest),
         Told::Refused(why) => say::refused(out, why),

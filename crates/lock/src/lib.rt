@@ -6,24 +6,52 @@
 // The holder alone removes the file, as its last act and thus before it dies. Whoever stood behind it and now finds it dead looks once
 // more: its own line is then gone from the path, and it starts over. A holder that was killed leaves its line, which is that of a
 // process that no longer lives.
-ghost use Rattle.std.specs.Prelude.{◌+◌, ◌≤◌, length};
+#![tactic(auto)]
 
-use libc::ENOENT;
+ghost use Rattle.std.specs.Prelude.{◌+◌, ◌*◌, ◌≤◌, length, IfOk};
+
 use numerals::Number;
+use std::fs::{File, OpenOptions};
+use std::io::{Error, ErrorKind, Read, Write};
+use std::rt::Files;
+use std::{fs, io};
 
 // ---- what the system tells of a process
 
-// The bytes of a small file, into the front of a buffer: how many they are, 0 where it can't be read.
-fn read_file(path: &[u8], out: &mut [u8]) -> usize
-    ensures { result ≤ length out.new }
-{
-    let fd = os::open_read(path);
-    if fd < 0 {
-        return 0;
+// A path is text.
+fn text_of(path: &[u8]) -> io::Result<&str> {
+    match str::from_utf8(path) {
+        Ok(text) => Ok(text),
+        Err(_) => Err(Error::from(ErrorKind::InvalidFilename)),
     }
-    let n = io::read_full(fd, out);
-    libc::close(fd);
-    n
+}
+
+fn opened<R: Files<File = File>>(rt: &R, path: &[u8]) -> io::Result<File> {
+    let text = text_of(path)?;
+    File::open(rt, text)
+}
+
+// Reads until the buffer is full or the file ends: how many bytes stand at its front.
+fn read_full(file: &mut File, buffer: &mut [u8]) -> io::Result<usize>
+    ensures { IfOk result (λ n. n ≤ length buffer.new) }
+{
+    let mut done = 0;
+    while done < buffer.len() {
+        let n = file.read(&mut buffer[done..])?;
+        if n == 0 {
+            break;
+        }
+        done += n;
+    }
+    Ok(done)
+}
+
+// The bytes of a small file, into the front of a buffer: how many they are.
+fn read_file<R: Files<File = File>>(rt: &R, path: &[u8], out: &mut [u8]) -> io::Result<usize>
+    ensures { IfOk result (λ n. n ≤ length out.new) }
+{
+    let mut file = opened(rt, path)?;
+    read_full(&mut file, out)
 }
 
 // Writes a part of six bytes and digits after it.
@@ -47,13 +75,13 @@ fn stat_path(pid: &[u8], path: &mut [u8]) -> usize
 }
 
 // The stat line of the process whose number these digits write, into the front of a buffer: how many bytes it has.
-fn read_stat(pid: &[u8], stat: &mut [u8]) -> usize
+fn read_stat<R: Files<File = File>>(rt: &R, pid: &[u8], stat: &mut [u8]) -> io::Result<usize>
     requires { length pid.now ≤ 20 }
-    ensures { result ≤ length stat.new }
+    ensures { IfOk result (λ n. n ≤ length stat.new) }
 {
     let mut path = [0u8; 64];
     let n = stat_path(pid, &mut path);
-    read_file(&path[0..n], stat)
+    read_file(rt, &path[0..n], stat)
 }
 
 // What the system tells of a process: so many bytes of a stat line, that there is none of that number, or nothing, as of one that ends
@@ -62,59 +90,76 @@ fn read_stat(pid: &[u8], stat: &mut [u8]) -> usize
 enum Told {
     Bytes(usize),
     Nobody,
-    Nothing,
+    Nothing(Error),
 }
 
 // Asks for the stat line of the process whose number these digits write. A file that could not be read is nobody's only where there
 // is none: whoever may be living isn't taken for dead.
-fn ask(pid: &[u8], stat: &mut [u8]) -> Told {
+fn ask<R: Files<File = File>>(rt: &R, pid: &[u8], stat: &mut [u8]) -> Told {
     if 20 < pid.len() {
         return Told::Nobody;
     }
-    let got = read_stat(pid, stat);
-    if 0 < got {
-        return Told::Bytes(got);
+    match read_stat(rt, pid, stat) {
+        Ok(got) => {
+            if got == 0 {
+                return Told::Nothing(Error::from(ErrorKind::UnexpectedEof));
+            }
+            Told::Bytes(got)
+        }
+        Err(why) => not_told(why),
     }
-    if os::errno() == ENOENT {
-        return Told::Nobody;
+}
+
+// No file has a name that isn't text there.
+fn not_told(why: Error) -> Told {
+    match why.kind() {
+        ErrorKind::NotFound => Told::Nobody,
+        ErrorKind::InvalidFilename => Told::Nobody,
+        _ => Told::Nothing(why),
     }
-    Told::Nothing
+}
+
+// What can't be told of this process.
+fn untold() -> Error {
+    Error::from(ErrorKind::InvalidData)
 }
 
 // Writes the line of the process whose number these digits write.
-fn sign_as(pid: &[u8], boot: &[u8], own: &mut [u8]) -> bool
+fn sign_as<R: Files<File = File>>(rt: &R, pid: &[u8], boot: &[u8], own: &mut [u8]) -> io::Result<()>
     requires { 128 ≤ length own.old }
 {
-    let mut stat = io::buffer();
-    match ask(pid, &mut stat) {
-        Told::Bytes(n) => lock_lines::sign(
-            pid,
-            lock_lines::start_time(text::piece(&stat, 0, n)),
-            boot,
-            own,
-        ),
-        _ => false,
+    let mut stat = [0u8; 4096];
+    match ask(rt, pid, &mut stat) {
+        Told::Bytes(n) => {
+            let start = lock_lines::start_time(text::piece(&stat, 0, n));
+            if lock_lines::sign(pid, start, boot, own) {
+                return Ok(());
+            }
+            Err(untold())
+        }
+        Told::Nobody => Err(Error::from(ErrorKind::NotFound)),
+        Told::Nothing(why) => Err(why),
     }
 }
 
 // Asks for this process as for any other once its number is known.
-fn sign_in(boot: &[u8], own: &mut [u8]) -> bool
+fn sign_in<R: Files<File = File>>(rt: &R, boot: &[u8], own: &mut [u8]) -> io::Result<()>
     requires { 128 ≤ length own.old }
 {
-    let mut stat = io::buffer();
-    let n = read_file(b"/proc/self/stat", &mut stat);
-    sign_as(script::word(text::piece(&stat, 0, n), 0), boot, own)
+    let mut stat = [0u8; 4096];
+    let n = read_file(rt, b"/proc/self/stat", &mut stat)?;
+    sign_as(rt, script::word(text::piece(&stat, 0, n), 0), boot, own)
 }
 
 // Writes the own line.
-fn sign_self(own: &mut [u8]) -> bool
+fn sign_self<R: Files<File = File>>(rt: &R, own: &mut [u8]) -> io::Result<()>
     requires { 128 ≤ length own.old }
 {
     let mut boot = [0u8; 36];
-    if read_file(b"/proc/sys/kernel/random/boot_id", &mut boot) < 36 {
-        return false;
+    if read_file(rt, b"/proc/sys/kernel/random/boot_id", &mut boot)? < 36 {
+        return Err(untold());
     }
-    sign_in(&boot, own)
+    sign_in(rt, &boot, own)
 }
 
 // Whether the process that wrote a line lives, or that isn't known.
@@ -122,7 +167,7 @@ fn sign_self(own: &mut [u8]) -> bool
 enum Life {
     Lives(u64),
     Ended,
-    Unknown,
+    Unknown(Error),
 }
 
 fn lives(pid: &[u8]) -> Life {
@@ -140,13 +185,13 @@ fn compare(line: &[u8], own: &[u8], pid: &[u8], stat: &[u8]) -> Life {
 }
 
 // A process lives whose line would be the same now.
-fn life_of(line: &[u8], own: &[u8]) -> Life {
+fn life_of<R: Files<File = File>>(rt: &R, line: &[u8], own: &[u8]) -> Life {
     let pid = script::word(line, 0);
-    let mut stat = io::buffer();
-    match ask(pid, &mut stat) {
+    let mut stat = [0u8; 4096];
+    match ask(rt, pid, &mut stat) {
         Told::Bytes(n) => compare(line, own, pid, text::piece(&stat, 0, n)),
         Told::Nobody => Life::Ended,
-        Told::Nothing => Life::Unknown,
+        Told::Nothing(why) => Life::Unknown(why),
     }
 }
 
@@ -158,99 +203,130 @@ fn life_of(line: &[u8], own: &[u8]) -> Life {
 enum Turn {
     Mine,
     Of(u64),
-    Again,
-    Failed,
+    Again(Error),
+    Failed(Error),
+}
+
+// The own line isn't there.
+fn lost_line() -> Turn {
+    Turn::Again(Error::from(ErrorKind::UnexpectedEof))
 }
 
 // Reads line by line up to the own one. No file has as many lines as there are steps.
-fn first_living(fd: i32, own: &[u8], line: &mut [u8]) -> Turn {
-    let mut steps = u32::MAX;
-    while 0 < steps {
-        steps -= 1;
-        if io::read_full(fd, line) < line.len() {
-            return Turn::Again;
+fn first_living<R: Files<File = File>>(
+    rt: &R,
+    file: &mut File,
+    own: &[u8],
+    line: &mut [u8],
+) -> Turn {
+    for _ in 0..u32::MAX {
+        match read_full(file, line) {
+            Ok(n) => {
+                if n < line.len() {
+                    return lost_line();
+                }
+            }
+            Err(why) => return Turn::Again(why),
         }
         if script::is_same(line, own) {
             return Turn::Mine;
         }
-        match life_of(line, own) {
+        match life_of(rt, line, own) {
             Life::Lives(pid) => return Turn::Of(pid),
-            Life::Unknown => return Turn::Again,
+            Life::Unknown(why) => return Turn::Again(why),
             Life::Ended => {}
         }
     }
-    Turn::Again
+    lost_line()
 }
 
 // Whose turn it is by the file that now stands at the path.
-fn look(path: &[u8], own: &[u8]) -> Turn {
-    let fd = os::open_read(path);
-    if fd < 0 {
-        return Turn::Again;
-    }
+fn look<R: Files<File = File>>(rt: &R, path: &[u8], own: &[u8]) -> Turn {
+    let mut file = match opened(rt, path) {
+        Ok(file) => file,
+        Err(why) => return Turn::Again(why),
+    };
     let mut line = [0u8; 128];
-    let turn = first_living(fd, own, &mut line);
-    libc::close(fd);
-    turn
+    first_living(rt, &mut file, own, &mut line)
 }
 
-// Appends the own line, in one write.
-fn append(path: &[u8], own: &[u8]) -> Turn {
-    let made = os::create(path);
-    if 0 <= made {
-        libc::close(made);
-    }
-    let fd = os::open_append(path);
-    if fd < 0 {
-        if os::errno() == ENOENT {
-            return Turn::Again;
+// Makes the file where there is none.
+fn made<R: Files<File = File>>(rt: &R, path: &[u8]) -> io::Result<()> {
+    let text = text_of(path)?;
+    OpenOptions::new()
+        .write(true)
+        .create_new(true)
+        .open(rt, text)?;
+    Ok(())
+}
+
+fn opened_at_end<R: Files<File = File>>(rt: &R, path: &[u8]) -> io::Result<File> {
+    let text = text_of(path)?;
+    OpenOptions::new().append(true).open(rt, text)
+}
+
+// The own line at the end of the file, in one write.
+fn put_last(opened: File, own: &[u8]) -> Turn {
+    let mut file = opened;
+    match file.write(own) {
+        Ok(n) => {
+            if n < own.len() {
+                return Turn::Failed(Error::from(ErrorKind::WriteZero));
+            }
+            Turn::Mine
         }
-        return Turn::Failed;
+        Err(why) => Turn::Failed(why),
     }
-    let got = libc::write(fd, own);
-    libc::close(fd);
-    if io::count(got, own) < own.len() {
-        return Turn::Failed;
+}
+
+// Appends the own line.
+fn append<R: Files<File = File>>(rt: &R, path: &[u8], own: &[u8]) -> Turn {
+    let _ = made(rt, path);
+    match opened_at_end(rt, path) {
+        Ok(file) => put_last(file, own),
+        Err(why) => {
+            if why.kind() == ErrorKind::NotFound {
+                return Turn::Again(why);
+            }
+            Turn::Failed(why)
+        }
     }
-    Turn::Mine
 }
 
 // Appends, then looks twice: who finds the holder dead at the first look finds its own line gone at the second, if the holder removed
 // the file.
-fn line_up(path: &[u8], own: &[u8]) -> Turn {
-    let appended = append(path, own);
+fn line_up<R: Files<File = File>>(rt: &R, path: &[u8], own: &[u8]) -> Turn {
+    let appended = append(rt, path, own);
     match appended {
-        Turn::Mine => match look(path, own) {
-            Turn::Mine => look(path, own),
-            Turn::Of(pid) => Turn::Of(pid),
-            _ => Turn::Again,
+        Turn::Mine => match look(rt, path, own) {
+            Turn::Mine => look(rt, path, own),
+            first => first,
         },
-        _ => appended,
+        other => other,
     }
 }
 
 // ---- the lock
 
-#[derive(Drop)]
+#[derive(Clone, Copy)]
 pub enum Taken {
     Held,
     InUse(u64),
-    Failed,
+    Failed(Error),
 }
 
 // Lines up until the queue can be told. Each turn but the last stands for a process that ended meanwhile.
-fn take_in(path: &[u8], own: &[u8]) -> Taken {
-    let mut turns: u32 = 100;
-    while 0 < turns {
-        turns -= 1;
-        match line_up(path, own) {
+fn take_in<R: Files<File = File>>(rt: &R, path: &[u8], own: &[u8]) -> Taken {
+    let mut last = Error::from(ErrorKind::WouldBlock);
+    for _ in 0..100 {
+        match line_up(rt, path, own) {
             Turn::Mine => return Taken::Held,
             Turn::Of(pid) => return Taken::InUse(pid),
-            Turn::Failed => return Taken::Failed,
-            Turn::Again => {}
+            Turn::Failed(why) => return Taken::Failed(why),
+            Turn::Again(why) => last = why,
         }
     }
-    Taken::Failed
+    Taken::Failed(last)
 }
 
 // The lock file's name: how many bytes it has, 0 where the journal's is longer than any path.
@@ -268,19 +344,24 @@ fn name_of(journal: &[u8], name: &mut [u8]) -> usize
 }
 
 // Takes the lock of the journal at a path, which leads through no link.
-pub fn take(journal: &[u8]) -> Taken {
+pub fn take<R: Files<File = File>>(rt: &R, journal: &[u8]) -> Taken {
     let mut own = lock_lines::blank();
-    if !sign_self(&mut own) {
-        return Taken::Failed;
+    if let Err(why) = sign_self(rt, &mut own) {
+        return Taken::Failed(why);
     }
     let mut path = [0u8; 4101];
     let n = name_of(journal, &mut path);
-    take_in(&path[0..n], &own)
+    take_in(rt, &path[0..n], &own)
+}
+
+fn removed<R: Files<File = File>>(rt: &R, path: &[u8]) -> io::Result<()> {
+    let text = text_of(path)?;
+    fs::remove_file(rt, text)
 }
 
 // Gives the lock back: its holder's last act.
-pub fn leave(journal: &[u8]) {
+pub fn leave<R: Files<File = File>>(rt: &R, journal: &[u8]) {
     let mut path = [0u8; 4101];
     let n = name_of(journal, &mut path);
-    os::unlink(&path[0..n]);
+    let _ = removed(rt, &path[0..n]);
 }

@@ -1,5 +1,7 @@
 // The lines of a lock's file, in which each process says who it is: its number, when it started, and the boot that it started in. For the crates
 // above: all of it is inner.
+#![tactic(auto)]
+
 ghost use Rattle.std.specs.Prelude.{◌≡◌, ◌≤◌, length};
 ghost use Rattle.lock_lines.specs.Stat.{after_name, start_time};
 ghost use Rattle.lock_lines.specs.Line.{blank_line, fits, signed, is_now};
@@ -13,7 +15,8 @@ fn after_name(stat: &[u8]) -> &[u8]
     let mut at = stat.len();
     let mut i = 0;
     while i < stat.len() {
-        if stat[i] == 41 {
+        let closes = stat[i] == 41;
+        if closes {
             at = i + 1;
         }
         i += 1;

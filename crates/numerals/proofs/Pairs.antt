@@ -114,11 +114,11 @@ glyph_capital n h = rw (le-ltb n 10 h)
 -- a hexadecimal digit is read back
 pub glyph_value : (n : ℕ) → n < 16 → hex_value (glyph n) ≡ n
 unfolding hex_value glyph
-glyph_value n h = eqb-true (hex_value (glyph n)) n (isTrue _ (below (λ m. eqb (hex_value (glyph m)) m) 16 tt n h))
+glyph_value n h = eqb-true (hex_value (glyph n)) n (is_true _ (below (λ m. eqb (hex_value (glyph m)) m) 16 tt n h))
   where
-    isTrue : (b : Bool) → T b → b ≡ true
-    isTrue true t = refl
-    isTrue false t = absurd t
+    is_true : (b : Bool) → T b → b ≡ true
+    is_true true t = refl
+    is_true false t = absurd t
 
 -- bytes written in hexadecimal are read back
 pub text_bytes : (s : List ℕ) → every (λ b. ltb b 256) s ≡ true → bytes_in (hex_text s) ≡ s

@@ -1,4 +1,6 @@
 // Numbers in decimal and bytes in hexadecimal, as a text writes them.
+#![tactic(auto)]
+
 ghost use Rattle.std.specs.Prelude.{◌≡◌, true, [], ◌∷◌, ◌+◌, ◌*◌, ◌/◌, ◌%◌, ◌≤◌, ◌<◌, leb, ltb, length, get_or};
 ghost use Rattle.text.specs.Bytes.{every};
 ghost use Rattle.text.specs.Numbers.{decimal, put};
@@ -8,7 +10,7 @@ ghost use Rattle.numerals.specs.Numbers.{number_rule, said_number, is_hex, hex_v
 // ---- numbers
 
 // Why a word isn't understood.
-#[derive(Drop)]
+#[derive(Clone, Copy)]
 pub enum Unclear {
     NotNumber,
     LargeNumber,
@@ -16,7 +18,7 @@ pub enum Unclear {
     ManyBytes,
 }
 
-#[derive(Drop)]
+#[derive(Clone, Copy)]
 pub enum Number {
     Is(u64),
     Isnt(Unclear),
@@ -64,7 +66,7 @@ pub fn number_in(w: &[u8], most: u64) -> Number
 
 // ---- bytes
 
-#[derive(Drop)]
+#[derive(Clone, Copy)]
 pub enum Bytes {
     Count(usize),
     Isnt(Unclear),

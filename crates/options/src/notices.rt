@@ -1,149 +1,191 @@
 // What the program says of itself and its file: answers on standard output, causes and usage on standard error.
-use super::Fault;
-use libc::{ENOENT, STDERR_FILENO, STDOUT_FILENO};
+use super::{Fault, argument};
+use std::io::{Error, ErrorKind, IsTerminal, Print};
+use std::rt::Env;
+use waiting::{Streams, causes};
 
-fn answer(words: &[u8]) {
-    io::write_all(STDOUT_FILENO, words);
+fn answer(streams: Streams, words: &[u8]) {
+    let _ = streams.output.write_all(words);
 }
 
-fn remark(words: &[u8]) {
-    io::write_all(STDERR_FILENO, words);
+fn answer_number(streams: Streams, n: u64) {
+    let _ = streams.output.print(n);
 }
 
-// So many of something.
-fn count(fd: i32, n: usize, thing: &[u8]) {
-    io::print_decimal(fd, n as u64);
-    io::write_all(fd, b" ");
-    io::write_all(fd, thing);
-    if n != 1 {
-        io::write_all(fd, b"s");
-    }
+fn remark(streams: Streams, words: &[u8]) {
+    causes::remark(streams.errors, words);
+}
+
+fn remark_number(streams: Streams, n: u64) {
+    let _ = streams.errors.print(n);
+}
+
+// The end of the word for n things.
+fn plural(n: usize) -> &'static [u8] {
+    if n == 1 { b"" } else { b"s" }
 }
 
 // ---- what it is asked
 
-fn unknown(i: usize) {
-    let mut argument = io::buffer();
-    let n = os::arg(i, &mut argument);
-    remark(b"option not understood: ");
-    remark(&argument[..n]);
+fn unknown<R: Env>(rt: &R, streams: Streams, i: usize) {
+    let mut room = [0u8; 4096];
+    let n = argument(rt, i, &mut room);
+    remark(streams, b"option not understood: ");
+    remark(streams, &room[..n]);
 }
 
 // A fault in the arguments, with the usage, in one line.
-pub fn usage(fault: Fault) {
-    remark(b"card: ");
+pub fn usage<R: Env>(rt: &R, streams: Streams, fault: Fault) {
+    remark(streams, b"card: ");
     match fault {
-        Fault::Unknown(i) => unknown(i),
-        Fault::NoName => remark(b"the journal's name is missing"),
-        Fault::ManyWords => remark(b"too many words"),
-        Fault::NotSlots => remark(b"SLOTS is a number from 1 to 2048"),
+        Fault::Unknown(i) => unknown(rt, streams, i),
+        Fault::NoName => remark(streams, b"the journal's name is missing"),
+        Fault::ManyWords => remark(streams, b"too many words"),
+        Fault::NotSlots => remark(streams, b"SLOTS is a number from 1 to 2048"),
     }
     remark(
+        streams,
         b"; usage: card [JOURNAL], card --new SLOTS JOURNAL, card --read-only JOURNAL, card --help, card --version\n",
     );
 }
 
-pub fn help() {
-    answer(b"card                       a journal of 2048 slots in memory\n");
-    answer(b"card JOURNAL               the journal in that file\n");
-    answer(b"card --new SLOTS JOURNAL   makes that file, 1 to 2048 slots, and uses it\n");
-    answer(b"card --read-only JOURNAL   the journal in that file, which isn't changed\n");
-    answer(b"card --help, --version     this text; the library's version\n");
-    answer(b"-- ends the options. Commands are read from standard input, one a line.\n");
+pub fn help(streams: Streams) {
+    answer(
+        streams,
+        b"card                       a journal of 2048 slots in memory\n",
+    );
+    answer(
+        streams,
+        b"card JOURNAL               the journal in that file\n",
+    );
+    answer(
+        streams,
+        b"card --new SLOTS JOURNAL   makes that file, 1 to 2048 slots, and uses it\n",
+    );
+    answer(
+        streams,
+        b"card --read-only JOURNAL   the journal in that file, which isn't changed\n",
+    );
+    answer(
+        streams,
+        b"card --help, --version     this text; the library's version\n",
+    );
+    answer(
+        streams,
+        b"-- ends the options. Commands are read from standard input, one a line.\n",
+    );
 }
 
-pub fn version() {
-    answer(b"goltwarden ");
-    io::print_decimal(STDOUT_FILENO, version::number() as u64);
-    answer(b"\n");
+pub fn version(streams: Streams) {
+    answer(streams, b"goltwarden ");
+    answer_number(streams, version::number() as u64);
+    answer(streams, b"\n");
 }
 
 // Without a standard output nothing is opened.
-pub fn unheard() {
-    remark(b"card: no line is taken: standard output is closed, or /dev/null can't be opened\n");
+pub fn unheard(streams: Streams) {
+    remark(
+        streams,
+        b"card: no line is taken: standard output is closed, or /dev/null can't be opened\n",
+    );
 }
 
 // ---- its file
 
+// The system's number for a name that is too long.
+const ENAMETOOLONG: i32 = 36;
+
 // A name that can't be a file's: an empty one, or one too long.
-pub fn nameless() {
-    if os::errno() == 0 {
-        remark(b"card: the journal's name is empty\n");
+pub fn nameless(streams: Streams, long: bool) {
+    if long {
+        let why = Error::from_raw_os_error(ENAMETOOLONG);
+        causes::fail(streams.errors, b"card: the journal's name", why);
     } else {
-        os::fail(b"card: the journal's name");
+        remark(streams, b"card: the journal's name is empty\n");
     }
-    answer(b"disk error: the journal could not be opened\n");
+    answer(streams, b"disk error: the journal could not be opened\n");
 }
 
 // What could not be done with the journal, and why.
-pub fn failed(name: &[u8], what: &[u8]) {
-    remark(b"card: ");
-    os::fail(name);
-    answer(b"disk error: the journal could not be ");
-    answer(what);
-    answer(b"\n");
+pub fn failed(streams: Streams, name: &[u8], what: &[u8], why: Error) {
+    remark(streams, b"card: ");
+    causes::fail(streams.errors, name, why);
+    answer(streams, b"disk error: the journal could not be ");
+    answer(streams, what);
+    answer(streams, b"\n");
 }
 
 // A file that could not be opened; where there is none, how one is made.
-pub fn not_opened(name: &[u8]) {
-    let missing = os::errno() == ENOENT;
-    failed(name, b"opened");
+pub fn not_opened(streams: Streams, name: &[u8], why: Error) {
+    let missing = why.kind() == ErrorKind::NotFound;
+    failed(streams, name, b"opened", why);
     if missing {
-        remark(b"card: a journal is made by card --new SLOTS JOURNAL\n");
+        remark(
+            streams,
+            b"card: a journal is made by card --new SLOTS JOURNAL\n",
+        );
     }
 }
 
-pub fn in_use(name: &[u8], pid: u64) {
-    remark(b"card: ");
-    remark(name);
-    remark(b" is in use by process ");
-    io::print_decimal(STDERR_FILENO, pid);
-    remark(b"\n");
-    answer(b"disk error: the journal is in use\n");
+pub fn in_use(streams: Streams, name: &[u8], pid: u64) {
+    remark(streams, b"card: ");
+    remark(streams, name);
+    remark(streams, b" is in use by process ");
+    remark_number(streams, pid);
+    remark(streams, b"\n");
+    answer(streams, b"disk error: the journal is in use\n");
 }
 
 // ---- what it finds in its file
 
-pub fn at_terminal() -> bool {
-    if libc::isatty(0) == 0 {
+pub fn at_terminal(streams: Streams) -> bool {
+    if !streams.input.is_terminal() {
         return false;
     }
-    libc::isatty(1) != 0
+    streams.output.is_terminal()
 }
 
-fn greeting(name: &[u8], length: usize) {
-    answer(name);
-    answer(b": ");
-    count(STDOUT_FILENO, length / 32, b"slot");
-    answer(b", ");
+fn greeting(streams: Streams, name: &[u8], length: usize) {
+    let slots = length / 32;
+    answer(streams, name);
+    answer(streams, b": ");
+    answer_number(streams, slots as u64);
+    answer(streams, b" slot");
+    answer(streams, plural(slots));
+    answer(streams, b", ");
 }
 
-pub fn formed(name: &[u8], length: usize, held: u32) {
-    if at_terminal() {
-        greeting(name, length);
-        io::print_decimal(STDOUT_FILENO, held as u64);
-        answer(b" held\n");
+pub fn formed(streams: Streams, name: &[u8], length: usize, held: u32) {
+    if at_terminal(streams) {
+        greeting(streams, name, length);
+        answer_number(streams, held as u64);
+        answer(streams, b" held\n");
     }
 }
 
 // How many bytes a file of a wrong length has, and what a journal has.
-fn wrong_length(name: &[u8], length: usize) {
-    remark(b"card: ");
-    remark(name);
-    remark(b": ");
+fn wrong_length(streams: Streams, name: &[u8], length: usize) {
+    remark(streams, b"card: ");
+    remark(streams, name);
+    remark(streams, b": ");
     if 65536 < length {
-        remark(b"over 65536 bytes");
+        remark(streams, b"over 65536 bytes");
     } else {
-        count(STDERR_FILENO, length, b"byte");
+        remark_number(streams, length as u64);
+        remark(streams, b" byte");
+        remark(streams, plural(length));
     }
-    remark(b"; a journal has 32 for each of its 1 to 2048 slots\n");
+    remark(
+        streams,
+        b"; a journal has 32 for each of its 1 to 2048 slots\n",
+    );
 }
 
-pub fn malformed(name: &[u8], length: usize) {
+pub fn malformed(streams: Streams, name: &[u8], length: usize) {
     if !slots::is_sized(length) {
-        wrong_length(name, length);
-    } else if at_terminal() {
-        greeting(name, length);
-        answer(b"not well formed\n");
+        wrong_length(streams, name, length);
+    } else if at_terminal(streams) {
+        greeting(streams, name, length);
+        answer(streams, b"not well formed\n");
     }
 }

@@ -1,24 +1,27 @@
 // The commands that change the journal, in memory or in a file: book, swipe, release. Each answers whether the journal can be used any more:
 // one that could not be written can't, so that nothing is told that the file may not hold.
+#![tactic(auto)]
+
 ghost use Rattle.std.specs.Prelude.{◌≤◌};
 
 use dates::{Date, Left};
 use disk::Stored;
 use journal::{Booked, Released};
 use layout::Track;
-use say::fields;
+use say::{Output, fields};
+use std::fs::File;
+use std::io::Error;
 use swipe::Swiped;
 
 // Where the journal is kept: in memory alone, or in a file too.
-#[derive(Drop)]
-pub struct Place {
-    pub filed: bool,
-    pub fd: i32,
+#[derive(Clone, Copy)]
+pub struct Place<'a> {
+    pub file: Option<&'a File>,
 }
 
 // A disk error is said in a line; the system's word for it goes to standard error.
-fn failed(out: &mut [u8], what: &[u8]) -> bool {
-    os::fail(b"card");
+fn failed(out: &mut Output, what: &[u8], why: Error) -> bool {
+    waiting::fail(out, b"card", why);
     say::words(out, b"disk error: the journal could not be ");
     say::words(out, what);
     say::line(out);
@@ -26,15 +29,14 @@ fn failed(out: &mut [u8], what: &[u8]) -> bool {
 }
 
 // Sees the records of `count` serials from `first` on in the file, where there is one: whether they are there.
-fn kept(out: &mut [u8], journal: &[u8], first: u32, count: u32, at: Place) -> bool {
-    let filed = at.filed;
-    if !filed {
+fn kept(out: &mut Output, journal: &[u8], first: u32, count: u32, at: Place<'_>) -> bool {
+    let Some(file) = at.file else {
         return true;
-    }
-    match disk::write(at.fd, journal, first, count) {
+    };
+    match disk::write(file, journal, first, count) {
         Stored::Synced => true,
-        Stored::NotWritten => failed(out, b"written"),
-        Stored::NotSynced => failed(out, b"synced"),
+        Stored::NotWritten(why) => failed(out, b"written", why),
+        Stored::NotSynced(why) => failed(out, b"synced", why),
     }
 }
 
@@ -42,12 +44,12 @@ fn kept(out: &mut [u8], journal: &[u8], first: u32, count: u32, at: Place) -> bo
 
 // Answers a booking, in words with numbers among them, once it is on the disk.
 fn booked(
-    out: &mut [u8],
+    out: &mut Output,
     journal: &[u8],
     serial: u32,
     form: &[u8],
     numbers: &[u64],
-    at: Place,
+    at: Place<'_>,
 ) -> bool {
     if !kept(out, journal, serial, 1, at) {
         return false;
@@ -57,13 +59,13 @@ fn booked(
 }
 
 fn book_in(
-    out: &mut [u8],
+    out: &mut Output,
     journal: &mut [u8],
     pan: &[u8],
     label: u16,
     amount: u32,
     clock: u32,
-    at: Place,
+    at: Place<'_>,
 ) -> bool {
     match journal::book(journal, pan, label, amount, clock) {
         Booked::Serial(serial) => {
@@ -78,7 +80,7 @@ fn book_in(
 }
 
 // What book and swipe have in common, words 2 to 4 of a line: a number, which is a booking's label and a swipe's bit count, an amount, a clock.
-#[derive(Drop)]
+#[derive(Clone, Copy)]
 struct Sale {
     clear: bool,
     number: u64,
@@ -97,7 +99,7 @@ fn unclear_sale() -> Sale
     }
 }
 
-fn sale_of(out: &mut [u8], line: &[u8], most: u64) -> Sale
+fn sale_of(out: &mut Output, line: &[u8], most: u64) -> Sale
     ensures { result.number ≤ most }
 {
     let number = fields::number(out, line, 2, most);
@@ -119,7 +121,7 @@ fn sale_of(out: &mut [u8], line: &[u8], most: u64) -> Sale
     }
 }
 
-pub fn book(out: &mut [u8], line: &[u8], journal: &mut [u8], at: Place) -> bool {
+pub fn book(out: &mut Output, line: &[u8], journal: &mut [u8], at: Place<'_>) -> bool {
     let sale = sale_of(out, line, 65535);
     let known = sale.clear;
     if !known {
@@ -138,7 +140,7 @@ pub fn book(out: &mut [u8], line: &[u8], journal: &mut [u8], at: Place) -> bool 
 }
 
 // Answers a swipe that was booked: its serial, and what its card has left.
-fn swiped(out: &mut [u8], journal: &[u8], serial: u32, left: Left, at: Place) -> bool {
+fn swiped(out: &mut Output, journal: &[u8], serial: u32, left: Left, at: Place<'_>) -> bool {
     match left {
         Left::Days(days) => {
             let numbers = [serial as u64, days as u64];
@@ -152,7 +154,7 @@ fn swiped(out: &mut [u8], journal: &[u8], serial: u32, left: Left, at: Place) ->
 }
 
 fn swipe_in(
-    out: &mut [u8],
+    out: &mut Output,
     track: Track,
     stream: &[u8],
     site: &[u8],
@@ -162,7 +164,7 @@ fn swipe_in(
     date: Date,
     sale: Sale,
     journal: &mut [u8],
-    at: Place,
+    at: Place<'_>,
 ) -> bool {
     // enough for either track
     let mut scratch = [0u8; 76];
@@ -189,7 +191,7 @@ fn swipe_in(
 }
 
 fn swipe_stream(
-    out: &mut [u8],
+    out: &mut Output,
     track: Track,
     line: &[u8],
     site: &[u8],
@@ -199,7 +201,7 @@ fn swipe_stream(
     date: Date,
     stream: &mut [u8],
     journal: &mut [u8],
-    at: Place,
+    at: Place<'_>,
 ) -> bool {
     let filled = fields::bytes(out, line, stream);
     let stream_known = filled.clear;
@@ -228,7 +230,7 @@ fn swipe_stream(
 }
 
 pub fn swipe(
-    out: &mut [u8],
+    out: &mut Output,
     track: Track,
     line: &[u8],
     site: &[u8],
@@ -237,7 +239,7 @@ pub fn swipe(
     digits: u32,
     date: Date,
     journal: &mut [u8],
-    at: Place,
+    at: Place<'_>,
 ) -> bool {
     let mut stream = [0u8; 70000];
     swipe_stream(
@@ -269,7 +271,7 @@ fn first_of(s: u32, count: u32) -> u32 {
 }
 
 // Answers a release once it is on the disk.
-fn released(out: &mut [u8], journal: &[u8], s: u32, count: u32, sum: u64, at: Place) -> bool {
+fn released(out: &mut Output, journal: &[u8], s: u32, count: u32, sum: u64, at: Place<'_>) -> bool {
     if !kept(out, journal, first_of(s, count), count, at) {
         return false;
     }
@@ -278,7 +280,7 @@ fn released(out: &mut [u8], journal: &[u8], s: u32, count: u32, sum: u64, at: Pl
     true
 }
 
-fn release_in(out: &mut [u8], journal: &mut [u8], s: u32, at: Place) -> bool {
+fn release_in(out: &mut Output, journal: &mut [u8], s: u32, at: Place<'_>) -> bool {
     match journal::release(journal, s) {
         Released::Those(count, sum) => released(out, journal, s, count, sum, at),
         Released::Refused(why) => {
@@ -288,7 +290,7 @@ fn release_in(out: &mut [u8], journal: &mut [u8], s: u32, at: Place) -> bool {
     }
 }
 
-pub fn release(out: &mut [u8], line: &[u8], journal: &mut [u8], at: Place) -> bool {
+pub fn release(out: &mut Output, line: &[u8], journal: &mut [u8], at: Place<'_>) -> bool {
     let serial = fields::number(out, line, 1, 4294967295);
     let known = serial.clear;
     if !known {

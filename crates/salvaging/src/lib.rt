@@ -1,13 +1,16 @@
 // The command `salvage`: a line for each slot that isn't free, one for each reason why the journal isn't well formed, and what the records come to.
+#![tactic(auto)]
+
 ghost use Rattle.std.specs.Prelude.{◌*◌, ◌≤◌, length};
 
 use journals::survey;
 use remains::{Counted, Counts, Looked};
 use salvage::{Agreed, Judged, Verdict};
+use say::Output;
 
 // ---- slots
 
-fn slot(out: &mut [u8], journal: &[u8], k: usize)
+fn slot(out: &mut Output, journal: &[u8], k: usize)
     requires { 32 * k ≤ length journal.now }
 {
     match remains::look(journal, k) {
@@ -22,7 +25,7 @@ fn slot(out: &mut [u8], journal: &[u8], k: usize)
     }
 }
 
-fn slots(out: &mut [u8], journal: &[u8]) {
+fn slots(out: &mut Output, journal: &[u8]) {
     let n = journal.len() / 32;
     let mut k = 0;
     while k < n {
@@ -33,12 +36,12 @@ fn slots(out: &mut [u8], journal: &[u8]) {
 
 // ---- reasons
 
-fn missing(out: &mut [u8], k: usize, serial: u32) {
+fn missing(out: &mut Output, k: usize, serial: u32) {
     let numbers = [serial as u64, k as u64];
     say::sentence(out, b"serial # is missing: slot # is free\n", &numbers);
 }
 
-fn damaged(out: &mut [u8], k: usize, due: u32) {
+fn damaged(out: &mut Output, k: usize, due: u32) {
     let numbers = [k as u64, due as u64];
     if due == 0 {
         say::sentence(out, b"slot # is damaged\n", &numbers);
@@ -51,7 +54,7 @@ fn damaged(out: &mut [u8], k: usize, due: u32) {
     }
 }
 
-fn disagrees(out: &mut [u8], k: usize, serial: u32, newest: u32) {
+fn disagrees(out: &mut Output, k: usize, serial: u32, newest: u32) {
     let numbers = [k as u64, serial as u64, newest as u64];
     say::sentence(
         out,
@@ -60,7 +63,7 @@ fn disagrees(out: &mut [u8], k: usize, serial: u32, newest: u32) {
     );
 }
 
-fn above(out: &mut [u8], serial: u32, held: u32) {
+fn above(out: &mut Output, serial: u32, held: u32) {
     let numbers = [serial as u64, held as u64];
     say::sentence(
         out,
@@ -70,7 +73,7 @@ fn above(out: &mut [u8], serial: u32, held: u32) {
 }
 
 // Writes why slot k keeps the journal from being well formed, and answers whether it doesn't.
-fn reason(out: &mut [u8], k: usize, newest: u32, verdict: Verdict) -> bool {
+fn reason(out: &mut Output, k: usize, newest: u32, verdict: Verdict) -> bool {
     match verdict {
         Verdict::Fine => return true,
         Verdict::Missing(serial) => missing(out, k, serial),
@@ -81,7 +84,7 @@ fn reason(out: &mut [u8], k: usize, newest: u32, verdict: Verdict) -> bool {
     false
 }
 
-fn judged(out: &mut [u8], journal: &[u8], k: usize, newest: u32, oldest: u32) -> bool {
+fn judged(out: &mut Output, journal: &[u8], k: usize, newest: u32, oldest: u32) -> bool {
     match salvage::judge(journal, k, newest, oldest) {
         Judged::Is(verdict) => reason(out, k, newest, verdict),
         Judged::Refused(why) => {
@@ -92,7 +95,7 @@ fn judged(out: &mut [u8], journal: &[u8], k: usize, newest: u32, oldest: u32) ->
 }
 
 // Writes every reason, and answers whether there is none: the journal is well formed.
-fn reasons_told(out: &mut [u8], journal: &[u8], newest: u32, oldest: u32) -> bool {
+fn reasons_told(out: &mut Output, journal: &[u8], newest: u32, oldest: u32) -> bool {
     let n = journal.len() / 32;
     let mut well = true;
     let mut k = 0;
@@ -105,19 +108,19 @@ fn reasons_told(out: &mut [u8], journal: &[u8], newest: u32, oldest: u32) -> boo
 
 // ---- the whole
 
-fn counts(out: &mut [u8], c: Counts) {
+fn counts(out: &mut Output, c: Counts) {
     let numbers = [c.held as u64, c.sum, c.released as u64, c.damaged as u64];
     say::sentence(out, b"held # sum # released # damaged #", &numbers);
 }
 
-fn counted(out: &mut [u8], journal: &[u8]) {
+fn counted(out: &mut Output, journal: &[u8]) {
     match remains::count(journal) {
         Counted::Of(c) => counts(out, c),
         Counted::Refused(why) => say::refusal(out, why),
     }
 }
 
-fn whole(out: &mut [u8], journal: &[u8], newest: u32, oldest: u32) {
+fn whole(out: &mut Output, journal: &[u8], newest: u32, oldest: u32) {
     slots(out, journal);
     let well = reasons_told(out, journal, newest, oldest);
     counted(out, journal);
@@ -125,7 +128,7 @@ fn whole(out: &mut [u8], journal: &[u8], newest: u32, oldest: u32) {
 }
 
 // Tells all that the bytes of a journal still say.
-pub fn salvage(out: &mut [u8], journal: &[u8]) {
+pub fn salvage(out: &mut Output, journal: &[u8]) {
     match salvage::agree(journal) {
         Agreed::On(newest, oldest) => whole(out, journal, newest, oldest),
         Agreed::Refused(_) => survey::wrong_length(out, journal.len()),

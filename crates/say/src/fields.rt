@@ -1,16 +1,16 @@
 // Words of a line as numbers and bytes; a word that isn't understood is answered here.
 ghost use Rattle.std.specs.Prelude.{◌≡◌, ◌≤◌, length};
 
-use super::{line, words};
+use super::{Output, line, words};
 use numerals::{Bytes, Number, Unclear};
 
-pub fn unclear(out: &mut [u8], why: &[u8]) {
+pub fn unclear(out: &mut Output, why: &[u8]) {
     words(out, b"not understood: ");
     words(out, why);
     line(out);
 }
 
-fn unclear_word(out: &mut [u8], why: Unclear) {
+fn unclear_word(out: &mut Output, why: Unclear) {
     match why {
         Unclear::NotNumber => unclear(out, b"not a number"),
         Unclear::LargeNumber => unclear(out, b"number too large"),
@@ -20,14 +20,14 @@ fn unclear_word(out: &mut [u8], why: Unclear) {
 }
 
 // A number that was understood, or none, which was answered.
-#[derive(Drop)]
+#[derive(Clone, Copy)]
 pub struct Field {
     pub clear: bool,
     pub value: u64,
 }
 
 // A word as a number, no more than `most`.
-pub fn number_of(out: &mut [u8], word: &[u8], most: u64) -> Field
+pub fn number_of(out: &mut Output, word: &[u8], most: u64) -> Field
     ensures { result.value ≤ most }
 {
     match numerals::number_in(word, most) {
@@ -43,14 +43,14 @@ pub fn number_of(out: &mut [u8], word: &[u8], most: u64) -> Field
 }
 
 // Word k of a line as a number.
-pub fn number(out: &mut [u8], text: &[u8], k: usize, most: u64) -> Field
+pub fn number(out: &mut Output, text: &[u8], k: usize, most: u64) -> Field
     ensures { result.value ≤ most }
 {
     number_of(out, script::word(text, k), most)
 }
 
 // How many bytes stand in the buffer's front, or none, which was answered.
-#[derive(Drop)]
+#[derive(Clone, Copy)]
 pub struct Filled {
     pub clear: bool,
     pub length: usize,
@@ -75,7 +75,7 @@ pub fn fills_none() -> Filled
 }
 
 // A word as bytes, into the front of a buffer.
-pub fn bytes_of(out: &mut [u8], word: &[u8], room: &mut [u8]) -> Filled
+pub fn bytes_of(out: &mut Output, word: &[u8], room: &mut [u8]) -> Filled
     ensures { result.length ≤ length room.new }
 {
     match numerals::bytes_in(script::text_of(word), room) {
@@ -88,7 +88,7 @@ pub fn bytes_of(out: &mut [u8], word: &[u8], room: &mut [u8]) -> Filled
 }
 
 // Word 1 of a line as bytes.
-pub fn bytes(out: &mut [u8], text: &[u8], room: &mut [u8]) -> Filled
+pub fn bytes(out: &mut Output, text: &[u8], room: &mut [u8]) -> Filled
     ensures { result.length ≤ length room.new }
 {
     bytes_of(out, script::word(text, 1), room)

@@ -1,32 +1,33 @@
-// Lines for people: words, texts, numbers, bytes, and what an answer says. They wait in a lent buffer (`waiting`).
+// Lines for people: words, texts, numbers, bytes, and what an answer says. They wait to be written out (`waiting`).
+#![tactic(auto)]
+
 pub mod fields;
 
 ghost use Rattle.std.specs.Prelude.{◌≤◌, length};
 
 use reasons::{Phrase, Reason, Tested};
+pub use waiting::Output;
 
-pub fn words(out: &mut [u8], s: &[u8]) {
-    let mut i = 0;
-    while i < s.len() {
-        waiting::put(out, s[i]);
-        i += 1;
+pub fn words(out: &mut Output, s: &[u8]) {
+    for b in s {
+        waiting::put(out, *b);
     }
 }
 
-fn number(out: &mut [u8], n: u64) {
+fn number(out: &mut Output, n: u64) {
     let mut digits = [0u8; 20];
     let k = io::decimal(n, &mut digits);
     words(out, &digits[..k]);
 }
 
 // A number with its name before it.
-pub fn value(out: &mut [u8], name: &[u8], n: u64) {
+pub fn value(out: &mut Output, name: &[u8], n: u64) {
     words(out, name);
     number(out, n);
 }
 
 // One byte of a sentence: how many numbers are written by then.
-fn put_next(out: &mut [u8], b: u8, numbers: &[u64], k: usize) -> usize {
+fn put_next(out: &mut Output, b: u8, numbers: &[u64], k: usize) -> usize {
     if b != 35 {
         waiting::put(out, b);
         return k;
@@ -39,21 +40,19 @@ fn put_next(out: &mut [u8], b: u8, numbers: &[u64], k: usize) -> usize {
 }
 
 // Words with numbers among them: each `#` stands for the next of the numbers, for none where there are no more; those left over are not written.
-pub fn sentence(out: &mut [u8], form: &[u8], numbers: &[u64]) {
+pub fn sentence(out: &mut Output, form: &[u8], numbers: &[u64]) {
     let mut k = 0;
-    let mut i = 0;
-    while i < form.len() {
-        k = put_next(out, form[i], numbers, k);
-        i += 1;
+    for b in form {
+        k = put_next(out, *b, numbers, k);
     }
 }
 
-pub fn line(out: &mut [u8]) {
+pub fn line(out: &mut Output) {
     words(out, b"\n");
 }
 
 // A text, `-` for the empty one.
-fn text(out: &mut [u8], s: &[u8]) {
+fn text(out: &mut Output, s: &[u8]) {
     if s.len() == 0 {
         words(out, b"-");
     } else {
@@ -62,32 +61,30 @@ fn text(out: &mut [u8], s: &[u8]) {
 }
 
 // A text with its name before it.
-pub fn named(out: &mut [u8], name: &[u8], s: &[u8]) {
+pub fn named(out: &mut Output, name: &[u8], s: &[u8]) {
     words(out, name);
     text(out, s);
 }
 
 // So many stars, nine at most.
-pub fn stars(out: &mut [u8], n: usize) {
+pub fn stars(out: &mut Output, n: usize) {
     words(out, text::piece(b"*********", 0, n));
 }
 
-fn pair(out: &mut [u8], b: u8) {
+fn pair(out: &mut Output, b: u8) {
     let digits = numerals::hex_of(b);
     words(out, &digits);
 }
 
 // Bytes in hexadecimal.
-pub fn hex(out: &mut [u8], s: &[u8]) {
-    let mut i = 0;
-    while i < s.len() {
-        pair(out, s[i]);
-        i += 1;
+pub fn hex(out: &mut Output, s: &[u8]) {
+    for b in s {
+        pair(out, *b);
     }
 }
 
 // A text that may hold spaces, in hexadecimal with its name before it; `-` for the empty one.
-pub fn named_hex(out: &mut [u8], name: &[u8], s: &[u8]) {
+pub fn named_hex(out: &mut Output, name: &[u8], s: &[u8]) {
     words(out, name);
     if s.len() == 0 {
         words(out, b"-");
@@ -96,7 +93,7 @@ pub fn named_hex(out: &mut [u8], name: &[u8], s: &[u8]) {
     }
 }
 
-fn phrase(out: &mut [u8], p: Phrase)
+fn phrase(out: &mut Output, p: Phrase)
     requires { p.len ≤ length p.bytes }
 {
     let bytes = p.bytes;
@@ -105,18 +102,18 @@ fn phrase(out: &mut [u8], p: Phrase)
 }
 
 // A refusal without the end of its line: its number and the reason in words.
-pub fn refusal(out: &mut [u8], why: Reason) {
+pub fn refusal(out: &mut Output, why: Reason) {
     value(out, b"refused ", reasons::number(why) as u64);
     words(out, b": ");
     phrase(out, reasons::words(why));
 }
 
-pub fn refused(out: &mut [u8], why: Reason) {
+pub fn refused(out: &mut Output, why: Reason) {
     refusal(out, why);
     line(out);
 }
 
-pub fn tested(out: &mut [u8], t: Tested) {
+pub fn tested(out: &mut Output, t: Tested) {
     match t {
         Tested::Passes => words(out, b"passes\n"),
         Tested::Refused(why) => refused(out, why),

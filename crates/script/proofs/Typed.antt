@@ -94,21 +94,21 @@ grouped_start s d = record { written = paste-zero d 0 (solid s); rest = refl; so
 
 module _ (s d out : List ℕ) (n i : ℕ) (g : Grouped s d out n i) where
   module _ (h : i < length s) (l : n < length d) where
-    rest-space : is_space (get_or s i 0) ≡ true → solid (drop i s) ≡ solid (drop (i + 1) s)
+    rest_space : is_space (get_or s i 0) ≡ true → solid (drop i s) ≡ solid (drop (i + 1) s)
     unfolding solid
-    rest-space e = rw (drop-cons s i 0 h, e) (ap (λ (k : ℕ). solid (drop k s)) (sym (add-one i)))
+    rest_space e = rw (drop-cons s i 0 h, e) (ap (λ (k : ℕ). solid (drop k s)) (sym (add-one i)))
 
-    rest-other : is_space (get_or s i 0) ≡ false → solid (drop i s) ≡ get_or s i 0 ∷ solid (drop (i + 1) s)
+    rest_other : is_space (get_or s i 0) ≡ false → solid (drop i s) ≡ get_or s i 0 ∷ solid (drop (i + 1) s)
     unfolding solid
-    rest-other e = rw (drop-cons s i 0 h, e) (ap (λ (k : ℕ). get_or s i 0 ∷ solid (drop k s)) (sym (add-one i)))
+    rest_other e = rw (drop-cons s i 0 h, e) (ap (λ (k : ℕ). get_or s i 0 ∷ solid (drop k s)) (sym (add-one i)))
 
-    pub grouped-turn : Grouped s d (cond (is_space (get_or s i 0)) out (set out n (get_or s i 0))) (cond (is_space (get_or s i 0)) n (n + 1)) (i + 1)
-    grouped-turn = by (is_space (get_or s i 0)) refl
+    pub grouped_turn : Grouped s d (cond (is_space (get_or s i 0)) out (set out n (get_or s i 0))) (cond (is_space (get_or s i 0)) n (n + 1)) (i + 1)
+    grouped_turn = by (is_space (get_or s i 0)) refl
       where
         by : (t : Bool) → is_space (get_or s i 0) ≡ t → Grouped s d (cond t out (set out n (get_or s i 0))) (cond t n (n + 1)) (i + 1)
-        by true e = record { written = g.written; rest = g.rest ∙ rest-space e; some = g.some; fits = g.fits }
+        by true e = record { written = g.written; rest = g.rest ∙ rest_space e; some = g.some; fits = g.fits }
         by false e =
-            let f = front_of (solid s) (solid (drop (i + 1) s)) n (get_or s i 0) (g.rest ∙ rest-other e) in
+            let f = front_of (solid s) (solid (drop (i + 1) s)) n (get_or s i 0) (g.rest ∙ rest_other e) in
             record {
               written = ap (λ (l : List ℕ). set l n (get_or s i 0)) g.written ∙ ap (set (paste d 0 (solid s) n) n) f.1
                   ∙ ap (λ (k : ℕ). set (paste d 0 (solid s) n) k (get_or (solid s) n 0)) (sym (zero-add n))

@@ -1,4 +1,6 @@
 // A line of a script taken apart: its words, its tag, a text typed in groups.
+#![tactic(auto)]
+
 ghost use Rattle.std.specs.Prelude.{◌≡◌, cond, ◌+◌, ◌-◌, ◌≤◌, ◌<◌, length, take, drop, set};
 ghost use Rattle.text.specs.Numbers.{put};
 ghost use Rattle.script.specs.Words.{is_space, first_word, after_words, word, spaces, gap, plain, is_blank, trimmed, is_tag, untagged, solid, same};

@@ -1,10 +1,13 @@
 // A slot in a line: its number, its state, the fields of its record, and what is wrong with it.
+#![tactic(auto)]
+
 use remains::{Fields, Slot, Tests};
+use say::Output;
 
 // ---- the card
 
 // A digit, `?` for a byte that is none: a damaged record may hold any byte.
-fn digit(out: &mut [u8], d: &[u8]) {
+fn digit(out: &mut Output, d: &[u8]) {
     if text::all_digits(d) {
         say::words(out, d);
     } else {
@@ -12,7 +15,7 @@ fn digit(out: &mut [u8], d: &[u8]) {
     }
 }
 
-fn digits(out: &mut [u8], part: &[u8]) {
+fn digits(out: &mut Output, part: &[u8]) {
     let mut i = 0;
     while i < part.len() {
         digit(out, text::piece(part, i, 1));
@@ -21,7 +24,7 @@ fn digits(out: &mut [u8], part: &[u8]) {
 }
 
 // A star for each hidden digit of a card number of n digits, `?` where n is no such number's length.
-fn stars(out: &mut [u8], n: u8) {
+fn stars(out: &mut Output, n: u8) {
     if n < 13 {
         say::words(out, b"?");
     } else if 19 < n {
@@ -31,7 +34,7 @@ fn stars(out: &mut [u8], n: u8) {
     }
 }
 
-fn card(out: &mut [u8], record: &[u8], length: u8) {
+fn card(out: &mut Output, record: &[u8], length: u8) {
     digits(out, text::piece(record, 16, 6));
     stars(out, length);
     digits(out, text::piece(record, 22, 4));
@@ -39,7 +42,7 @@ fn card(out: &mut [u8], record: &[u8], length: u8) {
 
 // ---- the fields
 
-fn fields(out: &mut [u8], record: &[u8], f: Fields) {
+fn fields(out: &mut Output, record: &[u8], f: Fields) {
     let numbers = [
         f.serial as u64,
         f.amount as u64,
@@ -52,13 +55,13 @@ fn fields(out: &mut [u8], record: &[u8], f: Fields) {
 
 // ---- what is wrong
 
-fn fault(out: &mut [u8], passes: bool, words: &[u8]) {
+fn fault(out: &mut Output, passes: bool, words: &[u8]) {
     if !passes {
         say::words(out, words);
     }
 }
 
-fn fault_value(out: &mut [u8], passes: bool, name: &[u8], n: u64) {
+fn fault_value(out: &mut Output, passes: bool, name: &[u8], n: u64) {
     if !passes {
         say::value(out, name, n);
     }
@@ -75,7 +78,7 @@ fn slot_of(serial: u32, n: usize) -> u64 {
     ((serial - 1) as usize % n) as u64
 }
 
-fn serial_faults(out: &mut [u8], serial: u32, t: Tests, n: usize) {
+fn serial_faults(out: &mut Output, serial: u32, t: Tests, n: usize) {
     fault(out, t.serial, b"; serial 0");
     if 0 < serial {
         fault_value(
@@ -87,13 +90,13 @@ fn serial_faults(out: &mut [u8], serial: u32, t: Tests, n: usize) {
     }
 }
 
-fn card_faults(out: &mut [u8], length: u8, t: Tests) {
+fn card_faults(out: &mut Output, length: u8, t: Tests) {
     fault_value(out, t.length, b"; card length ", length as u64);
     fault(out, t.digits, b"; digits that are no digits");
     fault(out, t.zeros, b"; zeros that are not 0");
 }
 
-fn faults(out: &mut [u8], f: Fields, t: Tests, n: usize) {
+fn faults(out: &mut Output, f: Fields, t: Tests, n: usize) {
     serial_faults(out, f.serial, t, n);
     fault_value(out, t.state, b"; state ", f.state as u64);
     fault(out, t.amount, b"; amount 0");
@@ -102,14 +105,14 @@ fn faults(out: &mut [u8], f: Fields, t: Tests, n: usize) {
 
 // ---- the slot
 
-fn whole(out: &mut [u8], record: &[u8], k: usize, state: &[u8], f: Fields) {
+fn whole(out: &mut Output, record: &[u8], k: usize, state: &[u8], f: Fields) {
     say::value(out, b"slot ", k as u64);
     say::words(out, state);
     fields(out, record, f);
 }
 
 // Writes what slot k of n says, given its bytes; nothing where it is free.
-pub fn told(out: &mut [u8], record: &[u8], n: usize, k: usize, s: Slot) {
+pub fn told(out: &mut Output, record: &[u8], n: usize, k: usize, s: Slot) {
     match s {
         Slot::Free => {}
         Slot::Held(f) => {

@@ -1,19 +1,21 @@
 // The commands on the stripe: tracks from bits, and the layouts between the sentinels.
+#![tactic(auto)]
+
 use bits::Read;
 use layout::Track;
-use say::fields;
+use say::{Output, fields};
 
 // ---- the reading
 
 // Track 1's characters may be spaces, so they are told in hexadecimal.
-fn chars(out: &mut [u8], track: Track, way: &[u8], read: &[u8]) {
+fn chars(out: &mut Output, track: Track, way: &[u8], read: &[u8]) {
     match track {
         Track::Two => say::named(out, way, read),
         Track::One => say::named_hex(out, way, read),
     }
 }
 
-fn told(out: &mut [u8], track: Track, way: &[u8], read: &[u8]) {
+fn told(out: &mut Output, track: Track, way: &[u8], read: &[u8]) {
     say::value(out, b"read ", read.len() as u64);
     chars(out, track, way, read);
     say::line(out);
@@ -28,7 +30,7 @@ pub fn read_on(track: Track, stream: &[u8], bits: u64, room: &mut [u8]) -> Read 
 }
 
 // 76 bytes are room for the characters of either track.
-fn read(out: &mut [u8], track: Track, stream: &[u8], bits: u64) {
+fn read(out: &mut Output, track: Track, stream: &[u8], bits: u64) {
     let mut room = [0u8; 76];
     match read_on(track, stream, bits, &mut room) {
         Read::Forward(n) => told(out, track, b" forward ", text::piece(&room, 0, n)),
@@ -37,7 +39,7 @@ fn read(out: &mut [u8], track: Track, stream: &[u8], bits: u64) {
     }
 }
 
-fn track_in(out: &mut [u8], track: Track, line: &[u8], stream: &mut [u8]) {
+fn track_in(out: &mut Output, track: Track, line: &[u8], stream: &mut [u8]) {
     let filled = fields::bytes(out, line, stream);
     let clear = filled.clear;
     if !clear {
@@ -52,7 +54,7 @@ fn track_in(out: &mut [u8], track: Track, line: &[u8], stream: &mut [u8]) {
     read(out, track, &stream[0..n], bits.value);
 }
 
-pub fn track(out: &mut [u8], track: Track, line: &[u8]) {
+pub fn track(out: &mut Output, track: Track, line: &[u8]) {
     let mut stream = [0u8; 70000];
     track_in(out, track, line, &mut stream);
 }
@@ -60,13 +62,13 @@ pub fn track(out: &mut [u8], track: Track, line: &[u8]) {
 // ---- the layout
 
 // The fields of digits, which both tracks have.
-fn digits(out: &mut [u8], pan: &[u8], expiry: &[u8], service: &[u8]) {
+fn digits(out: &mut Output, pan: &[u8], expiry: &[u8], service: &[u8]) {
     say::named(out, b"pan ", pan);
     say::named(out, b" expiry ", expiry);
     say::named(out, b" service ", service);
 }
 
-fn parts(out: &mut [u8], chars: &[u8]) {
+fn parts(out: &mut Output, chars: &[u8]) {
     digits(
         out,
         layout::pan_of(chars),
@@ -77,14 +79,14 @@ fn parts(out: &mut [u8], chars: &[u8]) {
     say::line(out);
 }
 
-pub fn divide(out: &mut [u8], chars: &[u8]) {
+pub fn divide(out: &mut Output, chars: &[u8]) {
     match layout::divide(chars) {
         layout::Division::Refused(why) => say::refused(out, why),
         _ => parts(out, chars),
     }
 }
 
-fn parts1(out: &mut [u8], chars: &[u8]) {
+fn parts1(out: &mut Output, chars: &[u8]) {
     digits(
         out,
         layout1::pan_of(chars),
@@ -96,14 +98,14 @@ fn parts1(out: &mut [u8], chars: &[u8]) {
     say::line(out);
 }
 
-fn divide1(out: &mut [u8], chars: &[u8]) {
+fn divide1(out: &mut Output, chars: &[u8]) {
     match layout1::divide(chars) {
         layout1::Division::Refused(why) => say::refused(out, why),
         _ => parts1(out, chars),
     }
 }
 
-fn layout1_in(out: &mut [u8], line: &[u8], room: &mut [u8]) {
+fn layout1_in(out: &mut Output, line: &[u8], room: &mut [u8]) {
     let filled = fields::bytes(out, line, room);
     let clear = filled.clear;
     if !clear {
@@ -113,7 +115,7 @@ fn layout1_in(out: &mut [u8], line: &[u8], room: &mut [u8]) {
     divide1(out, &room[0..n]);
 }
 
-pub fn layout1(out: &mut [u8], line: &[u8]) {
+pub fn layout1(out: &mut Output, line: &[u8]) {
     let mut room = [0u8; 70000];
     layout1_in(out, line, &mut room);
 }
