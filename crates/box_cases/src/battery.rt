@@ -5,6 +5,7 @@ use held::Told;
 use plays::Totals;
 use replay::Replayed;
 use samples::{EVERY, NONE, W11};
+use say::Output;
 
 // The spring, a byte a call: `p` a payment by a booking, `s` one by a swipe, `?` a record of no known kind, any other a release up to its number less
 // that of `@`: D is 4.
@@ -87,7 +88,7 @@ fn all_there(takings: u64, remitted: u64, held: u64) -> bool {
     takings - held == remitted
 }
 
-fn counts(out: &mut [u8; 4096], t: Totals, count: u32, sum: u64) {
+fn counts(out: &mut Output, t: Totals, count: u32, sum: u64) {
     let numbers = [
         t.booked,
         t.takings,
@@ -105,7 +106,7 @@ fn counts(out: &mut [u8; 4096], t: Totals, count: u32, sum: u64) {
     );
 }
 
-fn outcome(out: &mut [u8; 4096], t: Totals, count: u32, sum: u64) {
+fn outcome(out: &mut Output, t: Totals, count: u32, sum: u64) {
     counts(out, t, count, sum);
     if all_there(t.takings, t.remitted, sum) {
         say::words(out, b": nothing lost\n");
@@ -114,16 +115,16 @@ fn outcome(out: &mut [u8; 4096], t: Totals, count: u32, sum: u64) {
     }
 }
 
-pub fn not_whole(out: &mut [u8; 4096]) {
+pub fn not_whole(out: &mut Output) {
     say::words(out, b"no whole number of records\n");
 }
 
-pub fn too_long(out: &mut [u8; 4096]) {
+pub fn too_long(out: &mut Output) {
     say::words(out, b"too many records\n");
 }
 
 // The totals of a script, and what the journal holds after it.
-pub fn told(out: &mut [u8; 4096], t: Totals, journal: &[u8]) {
+pub fn told(out: &mut Output, t: Totals, journal: &[u8]) {
     match held::tell(journal) {
         Told::Held(count, sum, _, _) => outcome(out, t, count, sum),
         Told::Refused(why) => say::refused(out, why),
@@ -131,7 +132,7 @@ pub fn told(out: &mut [u8; 4096], t: Totals, journal: &[u8]) {
 }
 
 // A script played on a journal, with this table of ranges and scratch for either track.
-pub fn played(out: &mut [u8; 4096], script: &[u8], site: &[u8], journal: &mut [u8]) {
+pub fn played(out: &mut Output, script: &[u8], site: &[u8], journal: &mut [u8]) {
     let none = NONE;
     let mut scratch = [0u8; 76];
     match replay::replay(script, site, b"", &none, 16, &mut scratch, journal) {
@@ -142,7 +143,7 @@ pub fn played(out: &mut [u8; 4096], script: &[u8], site: &[u8], journal: &mut [u
 }
 
 // The first n calls, played on an all-zero journal.
-fn after(out: &mut [u8; 4096], words: &[u8], script: &[u8], n: u8) {
+fn after(out: &mut Output, words: &[u8], script: &[u8], n: u8) {
     let every = EVERY;
     let mut journal = [0u8; 512];
     say::words(out, words);
@@ -154,7 +155,7 @@ fn after(out: &mut [u8; 4096], words: &[u8], script: &[u8], n: u8) {
     );
 }
 
-fn until_full(out: &mut [u8; 4096], script: &[u8; 6400]) {
+fn until_full(out: &mut Output, script: &[u8; 6400]) {
     after(out, b"the first four released: ", script, 13);
     after(out, b"the journal full: ", script, 21);
     after(
@@ -167,21 +168,21 @@ fn until_full(out: &mut [u8; 4096], script: &[u8; 6400]) {
     after(out, b"the same once more: ", script, 25);
 }
 
-fn from_then_on(out: &mut [u8; 4096], script: &[u8; 6400]) {
+fn from_then_on(out: &mut Output, script: &[u8; 6400]) {
     after(out, b"full again: ", script, 31);
     after(out, b"an older release: ", script, 32);
     after(out, b"all released: ", script, 33);
     after(out, b"at the end: ", script, 50);
 }
 
-fn play(out: &mut [u8; 4096], good: bool) {
+fn play(out: &mut Output, good: bool) {
     let mut script = [0u8; 6400];
     spring(&mut script, good);
     until_full(out, &script);
     from_then_on(out, &script);
 }
 
-pub fn run(out: &mut [u8; 4096]) {
+pub fn run(out: &mut Output) {
     say::words(
         out,
         b"\n# The battery swap: forty payments in a journal of 16 slots\n",

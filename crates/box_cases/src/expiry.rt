@@ -3,6 +3,7 @@
 use crate::battery;
 use dates::Date;
 use samples::{E1, EVERY, W11};
+use say::Output;
 
 fn date(year: u32, month: u32, day: u32) -> Date {
     Date { year, month, day }
@@ -29,20 +30,20 @@ fn calls(script: &mut [u8; 1024], clock: u32) {
     swipe1(script, 7, date(0, 0, 0), clock);
 }
 
-fn play(out: &mut [u8; 4096], script: &[u8; 1024]) {
+fn play(out: &mut Output, script: &[u8; 1024]) {
     let every = EVERY;
     let mut journal = [0u8; 128];
     battery::played(out, script, &every, &mut journal);
 }
 
-fn by_clock(out: &mut [u8; 4096], words: &[u8], clock: u32) {
+fn by_clock(out: &mut Output, words: &[u8], clock: u32) {
     let mut script = [0u8; 1024];
     calls(&mut script, clock);
     say::words(out, words);
     play(out, &script);
 }
 
-pub fn run(out: &mut [u8; 4096]) {
+pub fn run(out: &mut Output) {
     say::words(
         out,
         b"\n# Cards that expire, by the host's dates: two swipes, two of expired cards, one on an earlier day again, two on no real day\n",

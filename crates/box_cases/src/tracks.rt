@@ -1,6 +1,7 @@
 // Swipes of both tracks in one script: each stream as its own track, a release, and each stream as the other track.
 use crate::battery;
 use samples::{DAY, E1, EVERY, W11};
+use say::Output;
 
 fn calls(script: &mut [u8; 640]) {
     let w11 = W11;
@@ -12,13 +13,13 @@ fn calls(script: &mut [u8; 640]) {
     call_records::swipe1(script, 4, 400, DAY, 0, 135, &w11);
 }
 
-fn play(out: &mut [u8; 4096], script: &[u8; 640]) {
+fn play(out: &mut Output, script: &[u8; 640]) {
     let every = EVERY;
     let mut journal = [0u8; 64];
     battery::played(out, script, &every, &mut journal);
 }
 
-pub fn run(out: &mut [u8; 4096]) {
+pub fn run(out: &mut Output) {
     let mut script = [0u8; 640];
     calls(&mut script);
     say::words(

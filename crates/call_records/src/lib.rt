@@ -1,4 +1,6 @@
 // The records of a script (docs/FORMATS.md), one function a kind.
+#![tactic(auto)]
+
 ghost use Rattle.std.specs.Prelude.{◌+◌, ◌≤◌, length};
 
 use dates::Date;

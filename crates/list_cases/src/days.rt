@@ -2,11 +2,12 @@
 use crate::{answered, swiped};
 use dates::Date;
 use samples::{EVERY, NONE, W11};
+use say::Output;
 
 // `;4111111111111111==101?` and its LRC, 120 bits: a card without an expiry.
 const LASTING: [u8; 15] = *b"\x8B\x84\x10\x42\x08\x21\x84\x10\x42\x08\xA1\xB5\x00\xC3\x0F";
 
-fn swipe(out: &mut [u8; 4096], stream: &[u8], bits: u64, amount: u32, date: Date) {
+fn swipe(out: &mut Output, stream: &[u8], bits: u64, amount: u32, date: Date) {
     let every = EVERY;
     let none = NONE;
     let numbers = [
@@ -20,14 +21,14 @@ fn swipe(out: &mut [u8; 4096], stream: &[u8], bits: u64, amount: u32, date: Date
 }
 
 // W11, which expires in December 2025, on a date.
-fn on(out: &mut [u8; 4096], amount: u32, year: u32, month: u32, day: u32) {
+fn on(out: &mut Output, amount: u32, year: u32, month: u32, day: u32) {
     let w11 = W11;
     say::words(out, b"swipe of W11");
     swipe(out, &w11, 135, amount, Date { year, month, day });
 }
 
 // The card without an expiry, on the first of January.
-fn lasting_in(out: &mut [u8; 4096], year: u32) {
+fn lasting_in(out: &mut Output, year: u32) {
     let lasting = LASTING;
     let date = Date {
         year,
@@ -39,7 +40,7 @@ fn lasting_in(out: &mut [u8; 4096], year: u32) {
 }
 
 // The ends of the century, and of the card's time.
-fn ends(out: &mut [u8; 4096]) {
+fn ends(out: &mut Output) {
     on(out, 250, 1999, 12, 31);
     on(out, 250, 2000, 1, 1);
     on(out, 250, 2025, 12, 31);
@@ -51,7 +52,7 @@ fn ends(out: &mut [u8; 4096]) {
 }
 
 // Days, months and years that aren't there; a day in February that is there in leap years alone.
-fn not_there(out: &mut [u8; 4096]) {
+fn not_there(out: &mut Output) {
     on(out, 250, 2025, 12, 0);
     on(out, 250, 2025, 12, 32);
     on(out, 250, 2025, 0, 1);
@@ -63,7 +64,7 @@ fn not_there(out: &mut [u8; 4096]) {
 }
 
 // A wrong date comes after an amount of 0.
-pub fn run(out: &mut [u8; 4096]) {
+pub fn run(out: &mut Output) {
     say::words(
         out,
         b"\n# Wrong dates, which no command keeps, and days beside them\n",

@@ -1,15 +1,18 @@
 // Hot lists too long to write out, as long as a list may be and one number longer; and wrong ones and wrong dates, which no command keeps.
+#![tactic(auto)]
+
 mod days;
 
 use dates::{Date, Left};
 use hotcards::in_use;
 use layout::Track;
 use samples::{DAY, EVERY, NONE, W11};
+use say::Output;
 use swipe::Swiped;
 
 // ---- the question
 
-fn ask(out: &mut [u8; 4096], list: &[u64], digits: u32, pan: &[u8]) {
+fn ask(out: &mut Output, list: &[u64], digits: u32, pan: &[u8]) {
     let numbers = [list.len() as u64, digits as u64];
     say::sentence(out, b"listed, of # numbers of # digits, ", &numbers);
     say::words(out, pan);
@@ -18,7 +21,7 @@ fn ask(out: &mut [u8; 4096], list: &[u64], digits: u32, pan: &[u8]) {
 }
 
 // Both ends, one between, and the cards beside the ends.
-fn ask_ends(out: &mut [u8; 4096], list: &[u64]) {
+fn ask_ends(out: &mut Output, list: &[u64]) {
     ask(out, list, 16, b"4111111111110000");
     ask(out, list, 16, b"4111111111118191");
     ask(out, list, 16, b"4111111111111111");
@@ -27,12 +30,12 @@ fn ask_ends(out: &mut [u8; 4096], list: &[u64]) {
 }
 
 // A wrong list, for what it has wrong: 21 comes before the PAN, which has 12 digits.
-fn ask_wrong(out: &mut [u8; 4096], what: &[u8], list: &[u64], digits: u32) {
+fn ask_wrong(out: &mut Output, what: &[u8], list: &[u64], digits: u32) {
     say::words(out, what);
     ask(out, list, digits, b"411111111111");
 }
 
-fn ask_all_wrong(out: &mut [u8; 4096]) {
+fn ask_all_wrong(out: &mut Output) {
     let none = NONE;
     let falling = [42u64, 0];
     let twice = [42u64, 42];
@@ -75,14 +78,14 @@ fn swiped(
 }
 
 // What a card has left.
-fn left_of(out: &mut [u8; 4096], left: Left) {
+fn left_of(out: &mut Output, left: Left) {
     match left {
         Left::Days(n) => say::value(out, b"days ", n as u64),
         Left::NoExpiry => say::words(out, b"no expiry"),
     }
 }
 
-fn answered(out: &mut [u8; 4096], answer: Swiped) {
+fn answered(out: &mut Output, answer: Swiped) {
     match answer {
         Swiped::Booked(_, left) => {
             say::words(out, b"booked, ");
@@ -94,7 +97,7 @@ fn answered(out: &mut [u8; 4096], answer: Swiped) {
 }
 
 // W11 swiped with this table of the site's and this list.
-fn swipe(out: &mut [u8; 4096], site: &[u8], list: &[u64], digits: u32, amount: u32) {
+fn swipe(out: &mut Output, site: &[u8], list: &[u64], digits: u32, amount: u32) {
     let w11 = W11;
     let numbers = [
         amount as u64,
@@ -111,7 +114,7 @@ fn swipe(out: &mut [u8; 4096], site: &[u8], list: &[u64], digits: u32, amount: u
 }
 
 // A wrong list comes after a wrong table, and before an amount of 0.
-fn swipe_wrong(out: &mut [u8; 4096]) {
+fn swipe_wrong(out: &mut Output) {
     let every = EVERY;
     let none = NONE;
     swipe(out, &every[0..15], &none, 12, 0);
@@ -132,7 +135,7 @@ fn rising() -> [u64; 8193] {
     list
 }
 
-fn longest(out: &mut [u8; 4096], list: &[u64]) {
+fn longest(out: &mut Output, list: &[u64]) {
     let every = EVERY;
     ask_ends(out, in_use(list, 8192));
     ask(out, list, 16, b"4111111111110000");
@@ -142,7 +145,7 @@ fn longest(out: &mut [u8; 4096], list: &[u64]) {
     swipe(out, &every, list, 16, 250);
 }
 
-pub fn run(out: &mut [u8; 4096]) {
+pub fn run(out: &mut Output) {
     let list = rising();
     say::words(
         out,

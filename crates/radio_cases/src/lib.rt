@@ -1,10 +1,13 @@
 // Box and host over the radio: five payments in a journal of three slots, most of them at the epoch, and an air of four places. First the host hears
 // nothing that it wants; then records and answers arrive late, twice and out of order; in the end all have arrived. The swipes are on the last two days
 // on which their cards are good.
+#![tactic(auto)]
+
 use box_cases::battery;
 use dates::Date;
 use exchange::{Exchanged, Sums};
 use samples::{E1, EVERY, NONE, W11};
+use say::Output;
 
 // ---- the script
 
@@ -75,7 +78,7 @@ fn one_more(script: &mut [u8; 4480]) {
 
 // ---- what it comes to
 
-fn agreed(out: &mut [u8; 4096], sums: Sums, journal: &[u8]) {
+fn agreed(out: &mut Output, sums: Sums, journal: &[u8]) {
     let ledger = sums.ledger;
     let numbers = [ledger.taken as u64, ledger.total];
     say::sentence(out, b"taken # of #, ", &numbers);
@@ -100,7 +103,7 @@ fn ran(script: &[u8], journal: &mut [u8], air: &mut [u8]) -> Exchanged {
 }
 
 // The first so many bytes of a script, run on an all-zero journal and a fresh ledger.
-fn after(out: &mut [u8; 4096], words: &[u8], script: &[u8], n: usize, air: &mut [u8]) {
+fn after(out: &mut Output, words: &[u8], script: &[u8], n: usize, air: &mut [u8]) {
     let mut journal = [0u8; 96];
     say::words(out, words);
     match ran(text::piece(script, 0, n), &mut journal, air) {
@@ -110,7 +113,7 @@ fn after(out: &mut [u8; 4096], words: &[u8], script: &[u8], n: usize, air: &mut 
     }
 }
 
-fn stages(out: &mut [u8; 4096], script: &[u8; 4480], air: &mut [u8; 128]) {
+fn stages(out: &mut Output, script: &[u8; 4480], air: &mut [u8; 128]) {
     after(out, b"nothing wanted has arrived: ", script, 128 * 13, air);
     after(
         out,
@@ -122,7 +125,7 @@ fn stages(out: &mut [u8; 4096], script: &[u8; 4480], air: &mut [u8; 128]) {
     after(out, b"all arrived: ", script, 128 * 35, air);
 }
 
-fn again(out: &mut [u8; 4096], script: &[u8; 4480], air: &mut [u8; 128]) {
+fn again(out: &mut Output, script: &[u8; 4480], air: &mut [u8; 128]) {
     after(
         out,
         b"the first of it again, the air as it was left: ",
@@ -134,13 +137,13 @@ fn again(out: &mut [u8; 4096], script: &[u8; 4480], air: &mut [u8; 128]) {
 }
 
 // All on one air, which each run clears first: record 1, left in its first place, isn't heard when the first events are run again.
-fn run_all(out: &mut [u8; 4096], script: &[u8; 4480]) {
+fn run_all(out: &mut Output, script: &[u8; 4480]) {
     let mut air = [0u8; 128];
     stages(out, script, &mut air);
     again(out, script, &mut air);
 }
 
-pub fn run(out: &mut [u8; 4096]) {
+pub fn run(out: &mut Output) {
     let mut script = [0u8; 4480];
     unheard(&mut script);
     late(&mut script);

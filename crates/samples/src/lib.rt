@@ -1,4 +1,6 @@
 // Two cards as they are swiped, a table that takes them, a hot list that blocks none and a day on which both are good: what the worked cases share.
+#![tactic(auto)]
+
 use dates::Date;
 
 // `;4111111111111111=2512101?` and its LRC, 135 bits.

@@ -87,12 +87,12 @@ pub record DivisionHolds (text pan name expiry service rest : List ℕ) : Type 0
 -- what stands between the first and the last character
 abbrev pub inner : List ℕ → List ℕ
 inner [] = []
-inner (b ∷ s) = butLast s
+inner (b ∷ s) = but_last s
   where
-    butLast : List ℕ → List ℕ
-    butLast [] = []
-    butLast (c ∷ []) = []
-    butLast (c ∷ (d ∷ t)) = c ∷ butLast (d ∷ t)
+    but_last : List ℕ → List ℕ
+    but_last [] = []
+    but_last (c ∷ []) = []
+    but_last (c ∷ (d ∷ t)) = c ∷ but_last (d ∷ t)
 
 abbrev pub Holds : Case → Type 0
 Holds (luhn_passes t) = luhn_rule (bytes_of t) ≡ gives tt

@@ -1,11 +1,15 @@
 // Shows document 01 and requests E1, E4 and E6 to E9: their cases and the outside vectors, one line a case, as `stdin` lists them; then the
 // cases that no line can ask for.
-fn end(out: &mut [u8; 4096]) {
+#![tactic(auto)]
+
+use waiting::{Output, Streams};
+
+fn end(out: &mut Output) {
     waiting::flush(out);
 }
 
-fn more() {
-    let mut out = [0u8; 4096];
+fn more(streams: Streams) {
+    let mut out = waiting::nothing(streams);
     part_cases::run(&mut out);
     length_cases::run(&mut out);
     list_cases::run(&mut out);
@@ -14,8 +18,13 @@ fn more() {
     end(&mut out);
 }
 
-fn main() {
+fn main(rt: HostRuntime) {
+    let streams = Streams {
+        input: rt.stdin(),
+        output: rt.stdout(),
+        errors: rt.stderr(),
+    };
     let mut journal = [0u8; 65537];
-    commands::run(&mut journal, keeping::in_memory(true));
-    more();
+    commands::run(streams, &mut journal, keeping::in_memory(true));
+    more(streams);
 }
