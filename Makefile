@@ -1,11 +1,11 @@
 # make test    every check of the project; its last line is that of rt ci, 'N passed, 0 failed'
-# make prove   rt ci alone: every crate proved from nothing, every must-fail edit tried, every program run
+# make prove   rt ci alone: every crate that has changed proved from nothing, its must-fail edits tried, every program run
 # make built   the tests of what is built: the library against its reference, the program card, damaged journals, README's commands
 # make run     the battery swap, told by the program card
 # make soak    the library held against the reference for as long as you like
 # make radio   a box and its host over a radio that loses, repeats and reorders: the books compared at the end
 # make bench   what each call costs, beside plain C: docs/BENCHMARK.md
-# make times   what each crate's check cost in the last make test: docs/TIMES.md
+# make times   how long the last make test took, and where: docs/TIMES.md
 
 .PHONY: test prove built run soak radio bench times
 

@@ -4,7 +4,7 @@
  * by the host's answer. The journal's file is kept as store.h says, the host's ledger,
  * JOURNAL.ledger, as host.h says.
  *
- *   cc -Iinclude examples/terminal.c target/staticlib/libgoltwarden.a -o terminal
+ *   cc -Iinclude examples/terminal.c crates/goltwarden/out/libgoltwarden.a -o terminal
  *   ./terminal JOURNAL
  *
  * Both files are made where there are none, the journal first, and belong together from

@@ -1,17 +1,19 @@
-"""What a run of `make test` says of its times, read from the log that it leaves (target/gate.log)."""
+"""What a run of `make test` says of its times, read from the log that it leaves (target/gate.log): each line behind the seconds since the start."""
 import re
 
 
 class GateLog:
-    """checks: crate to seconds; edits: crate to the seconds of each must-fail edit; ci, gate: seconds of `rt ci` and of all."""
+    """proved: crate to the second at which it was proved, of those that the run itself proved; kept: crates that an earlier run on the same machine
+    had proved; edits: crate to its must-fail edits that were refused; ci, gate: seconds of `rt ci` and of all."""
 
     def __init__(self, path):
         log = path.read_text()
-        self.checks = {crate: int(s) for crate, s in re.findall(r"^rt: (\w+) proved \((\d+) s\)", log, re.M)}
-        self.edits = {crate: [] for crate in self.checks}
-        for crate, s in re.findall(r"^rt: must-fail (\w+)/\w+: refused.*?(\d+) s\)$", log, re.M):
-            self.edits[crate].append(int(s))
+        self.proved = {crate: int(s) for s, crate in re.findall(r"^(\d+) rt: (\w+) proved$", log, re.M)}
+        self.kept = set(re.findall(r"^\d+ rt: (\w+) is kept: ", log, re.M))
+        self.edits = {}
+        for crate, edit in re.findall(r"^\d+ rt: must-fail (\w+)/(\w+)\.edit: refused", log, re.M):
+            self.edits.setdefault(crate, []).append(edit)
         self.ci, self.gate = map(int, re.search(r"^gate: rt ci (\d+) s, in all (\d+) s$", log, re.M).groups())
 
     def all_edits(self):
-        return [s for tried in self.edits.values() for s in tried]
+        return sum(map(len, self.edits.values()))

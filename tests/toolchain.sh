@@ -45,9 +45,9 @@ find_library() {
         ;;
     '')
         tests/needs rt || exit 1
-        rt staticlib goltwarden >"$OUT/staticlib.log" 2>&1 ||
+        (cd crates/goltwarden && rt lib) >"$OUT/staticlib.log" 2>&1 ||
             fail "the library isn't proved or built: $(tail -n 3 "$OUT/staticlib.log")"
-        LIBRARY=$PWD/target/staticlib/libgoltwarden.a
+        LIBRARY=$PWD/crates/goltwarden/out/libgoltwarden.a
         ;;
     *)
         LIBRARY=$(realpath "$LIBRARY")

@@ -3,7 +3,7 @@ import os, pathlib, signal, subprocess
 
 here = pathlib.Path(__file__).resolve().parent
 root = here.parent.parent
-program = [str(root / "tests/x86"), str(root / "target/bin/card")]
+program = [str(root / "tests/x86"), str(root / "crates/card/out/card")]
 
 SLOT, SLOTS = 32, 2048
 CARD, OTHER = "4111111111111111", "378282246310005"

@@ -56,6 +56,16 @@ def swiped(folder):
     begin(lines("held\n", path), [f"{s} {a} 411111******1111" for s, a in ((2, 250), (3, 300), (4, 350), (5, 400))] + ["done 4"])
 
 
+def names_of_text(folder):
+    """A journal's name is text: one of other bytes is refused with its cause, and nothing is made, no lock either."""
+    path = folder / os.fsdecode(b"journal\xff")
+    for words, undone in ((("--new", 4), "locked"), ((), "opened"), (("--read-only",), "opened")):
+        out, err = both("tell\n", *words, path)
+        same(out, f"disk error: the journal could not be {undone}\n".encode(), f"{words}")
+        same(err, b"card: " + os.fsencode(path) + b": invalid filename\n", f"{words}")
+        same(list(folder.iterdir()), [], "files in the folder")
+
+
 def untouched(folder):
     """A file of a wrong length or form is never touched: the journal's commands answer 16, and a wrong length is said."""
     wrong = "refused 16: journal not well formed"
@@ -475,5 +485,5 @@ def synced_at_start(folder):
         begin(done.stdout.decode().splitlines(), [f"held {turn + 1} {turn * 2 + 1} oldest 1 newest {turn + 1}"], "what the next start tells")
 
 
-TESTS = [kept, round_the_ring, swiped, untouched, last_serial, no_file, options, never_replaced, no_descriptors, one_at_a_time, lock_left, two_starts,
+TESTS = [kept, round_the_ring, swiped, names_of_text, untouched, last_serial, no_file, options, never_replaced, no_descriptors, one_at_a_time, lock_left, two_starts,
          two_makers, only_read, at_terminal, full_disk, killed, in_order, synced_at_start]
