@@ -4,7 +4,7 @@
 
 ghost use Rattle.std.specs.Prelude.{◌+◌, ◌*◌, ◌%◌, ◌≤◌, ◌<◌, length, IfOk};
 
-use std::fs::{File, OpenOptions, Permissions};
+use std::fs::{File, Permissions};
 use std::io::{Error, ErrorKind, Read, Write};
 use std::os::fd::{AsRawFd, IntoRawFd};
 use std::os::unix::fs::{FileExt, PermissionsExt};
@@ -60,21 +60,6 @@ fn unusable(why: Use) -> Opened
     }
 }
 
-// Reads until the buffer is full or the file ends: how many bytes stand at its front.
-fn read_full(file: &mut File, buffer: &mut [u8]) -> io::Result<usize>
-    ensures { IfOk result (λ n. n ≤ length buffer.new) }
-{
-    let mut done = 0;
-    while done < buffer.len() {
-        let n = file.read(&mut buffer[done..])?;
-        if n == 0 {
-            break;
-        }
-        done += n;
-    }
-    Ok(done)
-}
-
 // Whether the file has ended.
 fn at_end(file: &mut File) -> io::Result<()> {
     let mut more = [0u8; 1];
@@ -88,7 +73,7 @@ fn at_end(file: &mut File) -> io::Result<()> {
 fn read_once(file: &mut File, journal: &mut [u8]) -> io::Result<usize>
     ensures { IfOk result (λ n. n ≤ length journal.new) }
 {
-    let n = read_full(file, journal)?;
+    let n = paths::read_full(file, journal)?;
     if n < journal.len() {
         at_end(file)?;
     }
@@ -117,36 +102,18 @@ fn read_in(opened: io::Result<File>, journal: &mut [u8]) -> Opened
     }
 }
 
-// A path is text.
-fn text_of(path: &[u8]) -> io::Result<&str> {
-    match str::from_utf8(path) {
-        Ok(text) => Ok(text),
-        Err(_) => Err(Error::from(ErrorKind::InvalidFilename)),
-    }
-}
-
-fn opened_to_change<R: Files<File = File>>(rt: &R, path: &[u8]) -> io::Result<File> {
-    let text = text_of(path)?;
-    OpenOptions::new().read(true).write(true).open(rt, text)
-}
-
-fn opened_to_read<R: Files<File = File>>(rt: &R, path: &[u8]) -> io::Result<File> {
-    let text = text_of(path)?;
-    File::open(rt, text)
-}
-
 // Opens the journal at a path for changes.
 pub fn open<R: Files<File = File>>(rt: &R, path: &[u8], journal: &mut [u8]) -> Opened
     ensures { result.length ≤ length journal.new }
 {
-    read_in(opened_to_change(rt, path), journal)
+    read_in(paths::opened_to_change(rt, path), journal)
 }
 
 // Opens the journal at a path for reading alone.
 pub fn open_to_read<R: Files<File = File>>(rt: &R, path: &[u8], journal: &mut [u8]) -> Opened
     ensures { result.length ≤ length journal.new }
 {
-    read_in(opened_to_read(rt, path), journal)
+    read_in(paths::opened_to_read(rt, path), journal)
 }
 
 // Puts a text into the front of a buffer, as much of it as there is room for: how many bytes that are.
@@ -185,7 +152,7 @@ pub fn resolve<R: Files<File = File> + AllocGlobal>(
 ) -> io::Result<usize>
     ensures { IfOk result (λ n. n ≤ length real.new) }
 {
-    let file = opened_to_change(rt, path)?;
+    let file = paths::opened_to_change(rt, path)?;
     link_of(rt, &file, real)
 }
 
@@ -206,7 +173,7 @@ fn last_part(path: &[u8]) -> usize
 }
 
 fn sync_folder<R: Files<File = File>>(rt: &R, folder: &[u8]) -> io::Result<()> {
-    let file = opened_to_read(rt, folder)?;
+    let file = paths::opened_to_read(rt, folder)?;
     file.sync_all()
 }
 
@@ -232,26 +199,12 @@ fn settle<R: Files<File = File>>(
     name_kept(rt, path)
 }
 
-// A new file at a path where nothing is.
-fn created<R: Files<File = File>>(rt: &R, path: &[u8]) -> io::Result<File> {
-    let text = text_of(path)?;
-    OpenOptions::new()
-        .write(true)
-        .create_new(true)
-        .open(rt, text)
-}
-
-fn removed<R: Files<File = File>>(rt: &R, path: &[u8]) -> io::Result<()> {
-    let text = text_of(path)?;
-    fs::remove_file(rt, text)
-}
-
 // Makes the journal at a path, of these zeros. What is there already, a link too, is never replaced; what could not be made whole is
 // removed.
 pub fn make<R: Files<File = File>>(rt: &R, path: &[u8], zeros: &[u8]) -> Opened
     ensures { result.length ≤ length zeros.now }
 {
-    let mut file = match created(rt, path) {
+    let mut file = match paths::created(rt, path) {
         Ok(file) => file,
         Err(why) => return unusable(Use::NotMade(why)),
     };
@@ -261,7 +214,7 @@ pub fn make<R: Files<File = File>>(rt: &R, path: &[u8], zeros: &[u8]) -> Opened
             usable: Use::Ready(file),
         },
         Err(why) => {
-            let _ = removed(rt, path);
+            let _ = paths::removed(rt, path);
             unusable(Use::NotMade(why))
         }
     }

@@ -11,47 +11,19 @@
 ghost use Rattle.std.specs.Prelude.{◌+◌, ◌*◌, ◌≤◌, length, IfOk};
 
 use numerals::Number;
-use std::fs::{File, OpenOptions};
-use std::io::{Error, ErrorKind, Read, Write};
+use std::fs::File;
+use std::io;
+use std::io::{Error, ErrorKind, Write};
 use std::rt::Files;
-use std::{fs, io};
 
 // ---- what the system tells of a process
-
-// A path is text.
-fn text_of(path: &[u8]) -> io::Result<&str> {
-    match str::from_utf8(path) {
-        Ok(text) => Ok(text),
-        Err(_) => Err(Error::from(ErrorKind::InvalidFilename)),
-    }
-}
-
-fn opened<R: Files<File = File>>(rt: &R, path: &[u8]) -> io::Result<File> {
-    let text = text_of(path)?;
-    File::open(rt, text)
-}
-
-// Reads until the buffer is full or the file ends: how many bytes stand at its front.
-fn read_full(file: &mut File, buffer: &mut [u8]) -> io::Result<usize>
-    ensures { IfOk result (λ n. n ≤ length buffer.new) }
-{
-    let mut done = 0;
-    while done < buffer.len() {
-        let n = file.read(&mut buffer[done..])?;
-        if n == 0 {
-            break;
-        }
-        done += n;
-    }
-    Ok(done)
-}
 
 // The bytes of a small file, into the front of a buffer: how many they are.
 fn read_file<R: Files<File = File>>(rt: &R, path: &[u8], out: &mut [u8]) -> io::Result<usize>
     ensures { IfOk result (λ n. n ≤ length out.new) }
 {
-    let mut file = opened(rt, path)?;
-    read_full(&mut file, out)
+    let mut file = paths::opened_to_read(rt, path)?;
+    paths::read_full(&mut file, out)
 }
 
 // Writes a part of six bytes and digits after it.
@@ -220,7 +192,7 @@ fn first_living<R: Files<File = File>>(
     line: &mut [u8],
 ) -> Turn {
     for _ in 0..u32::MAX {
-        match read_full(file, line) {
+        match paths::read_full(file, line) {
             Ok(n) => {
                 if n < line.len() {
                     return lost_line();
@@ -242,27 +214,12 @@ fn first_living<R: Files<File = File>>(
 
 // Whose turn it is by the file that now stands at the path.
 fn look<R: Files<File = File>>(rt: &R, path: &[u8], own: &[u8]) -> Turn {
-    let mut file = match opened(rt, path) {
+    let mut file = match paths::opened_to_read(rt, path) {
         Ok(file) => file,
         Err(why) => return Turn::Again(why),
     };
     let mut line = [0u8; 128];
     first_living(rt, &mut file, own, &mut line)
-}
-
-// Makes the file where there is none.
-fn made<R: Files<File = File>>(rt: &R, path: &[u8]) -> io::Result<()> {
-    let text = text_of(path)?;
-    OpenOptions::new()
-        .write(true)
-        .create_new(true)
-        .open(rt, text)?;
-    Ok(())
-}
-
-fn opened_at_end<R: Files<File = File>>(rt: &R, path: &[u8]) -> io::Result<File> {
-    let text = text_of(path)?;
-    OpenOptions::new().append(true).open(rt, text)
 }
 
 // The own line at the end of the file, in one write.
@@ -279,10 +236,10 @@ fn put_last(opened: File, own: &[u8]) -> Turn {
     }
 }
 
-// Appends the own line.
+// Appends the own line, to a file that is made where there is none.
 fn append<R: Files<File = File>>(rt: &R, path: &[u8], own: &[u8]) -> Turn {
-    let _ = made(rt, path);
-    match opened_at_end(rt, path) {
+    let _ = paths::created(rt, path);
+    match paths::opened_at_end(rt, path) {
         Ok(file) => put_last(file, own),
         Err(why) => {
             if why.kind() == ErrorKind::NotFound {
@@ -354,14 +311,9 @@ pub fn take<R: Files<File = File>>(rt: &R, journal: &[u8]) -> Taken {
     take_in(rt, &path[0..n], &own)
 }
 
-fn removed<R: Files<File = File>>(rt: &R, path: &[u8]) -> io::Result<()> {
-    let text = text_of(path)?;
-    fs::remove_file(rt, text)
-}
-
 // Gives the lock back: its holder's last act.
 pub fn leave<R: Files<File = File>>(rt: &R, journal: &[u8]) {
     let mut path = [0u8; 4101];
     let n = name_of(journal, &mut path);
-    let _ = removed(rt, &path[0..n]);
+    let _ = paths::removed(rt, &path[0..n]);
 }
