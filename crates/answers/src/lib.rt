@@ -6,12 +6,11 @@ use journals::{memory, survey};
 use menu::{Command, Looking, OnGroups, OnStripe, OnText, Row};
 use say::{Output, fields};
 
-// ---- whether a line has a command and its words; where it hasn't, that is answered
+// ---- whether a line has its words; where it hasn't, that is answered
 
 // Whether a word is empty. Of a text in groups the spaces don't count, but the word before it does.
 fn has_gap(row: Row, line: &[u8]) -> bool {
-    let grouped = row.grouped;
-    if !grouped {
+    if !row.grouped {
         return script::has_gap(line);
     }
     if row.least < 2 {
@@ -32,21 +31,12 @@ fn has_count(out: &mut Output, row: Row, n: usize) -> bool {
     true
 }
 
-fn has_words(out: &mut Output, row: Row, line: &[u8]) -> bool {
+pub fn is_clear(out: &mut Output, row: Row, line: &[u8]) -> bool {
     if has_gap(row, line) {
         fields::unclear(out, b"an empty word (- stands for an empty text)");
         return false;
     }
     has_count(out, row, script::operands(line))
-}
-
-pub fn is_clear(out: &mut Output, row: Row, line: &[u8]) -> bool {
-    let c = row.command;
-    if let Command::Unknown = c {
-        menu::unknown(out, script::word(line, 0));
-        return false;
-    }
-    has_words(out, row, line)
 }
 
 // ---- texts
@@ -88,12 +78,9 @@ fn on_stripe(out: &mut Output, c: OnStripe, line: &[u8]) {
 
 // ---- the journal
 
-// Whether the journal can't be used any more, which is answered.
-pub fn is_lost(out: &mut Output, lost: bool) -> bool {
-    if lost {
-        say::words(out, b"disk error: no journal until the next start\n");
-    }
-    lost
+// The journal can't be used any more.
+pub fn lost(out: &mut Output) {
+    say::words(out, b"disk error: no journal until the next start\n");
 }
 
 fn look_at(out: &mut Output, c: Looking, line: &[u8], journal: &[u8]) {
@@ -107,20 +94,16 @@ fn look_at(out: &mut Output, c: Looking, line: &[u8], journal: &[u8]) {
     }
 }
 
-fn look(out: &mut Output, c: Looking, line: &[u8], journal: &[u8], lost: bool) {
-    if !is_lost(out, lost) {
-        look_at(out, c, line, journal);
-    }
-}
-
-// Answers a line that has its words; the commands that keep something have answers elsewhere.
-pub fn answer(out: &mut Output, row: Row, line: &[u8], journal: &[u8], lost: bool) {
-    let command = row.command;
-    match command {
+// Answers a line that has its words, given the journal where it can be used; the commands that keep something have answers elsewhere.
+pub fn answer(out: &mut Output, row: Row, line: &[u8], journal: Option<&[u8]>) {
+    match row.command {
         Command::Text(c) => on_text(out, c, line),
         Command::Groups(c) => on_groups(out, c, line, row.least),
         Command::Stripe(c) => on_stripe(out, c, line),
-        Command::Look(c) => look(out, c, line, journal, lost),
+        Command::Look(c) => match journal {
+            Some(bytes) => look_at(out, c, line, bytes),
+            None => lost(out),
+        },
         Command::Help => menu::help(out),
         _ => {}
     }

@@ -1,27 +1,29 @@
 -- The laws on readings, for every proper format.
 use mathlib.Core.Path.{◌≡◌, sym, ap, ◌∙◌}
-use mathlib.Core.Bool.{Bool, true, false, ◌&&◌, false≢true}
+use mathlib.Core.Bool.{Bool, true, false, ◌&&◌}
 use mathlib.Core.List.{List, reverse, reverse-reverse}
 use Prim.Native.Nat.{ℕ, ◌-◌, ◌*◌, ◌≤◌, ◌<◌}
 use native.Mathlib.Omega.{arith}
 use lib.ListN.{length}
 use lib.Dec.{leb}
 use borrow.Author.Tests.{leb-true}
+use Rattle.std.proofs.Common.{Result, Ok, Err}
 use Rattle.text.proofs.Tests.{both_true}
 use Rattle.reasons.specs.Reasons.{number_of, Outcome, gives, refuses}
+use Rattle.reasons.specs.declared.Reason.{Reason}
 use Rattle.reasons.proofs.Laws.{gives_refuses, refuses_one, passed}
 use Rattle.stream.specs.Stream.{stream}
 use Rattle.stream.proofs.Streams.{length-stream}
 use Rattle.chars.specs.Reading.{Format, read_one}
 use Rattle.chars.specs.Shape.{format_of, Sound}
 use Rattle.chars.specs.Flip.{Proper}
-use Rattle.chars.specs.declared.Shape.{Shape}
-use Rattle.chars.proofs.Laws.{flip_found}
+use Rattle.chars.specs.declared.shape.Shape.{Shape}
+use Rattle.chars.proofs.Laws.{flip_found, sound}
 use Rattle.bits.specs.Reading.{Track, forward_of, reversed_of, choose, read_either, read_rule, said, Reads}
 use Rattle.bits.specs.Ways.{plain}
 use Rattle.bits.specs.Flip.{flip_bit, Reverses}
 use Rattle.bits.specs.declared.Read.{Read}
-use Rattle.bits.specs.declared.Read.TheVariants.{Forward, Reversed, Refused}
+use Rattle.bits.specs.declared.Read.TheVariants.{Forward, Reversed}
 use Rattle.bits.proofs.Rules.{rule_reads}
 use Rattle.bits.proofs.Lengths.{either_length}
 use Rattle.bits.proofs.FlipBytes.{flipped_stream, reversed_stream}
@@ -31,39 +33,29 @@ given : {d c : Bool} (n m : ℕ) → ◌≡◌ {A = Outcome (Bool × ℕ)} (give
 given {d} {c} n m e = let z : ◌≡◌ {A = Bool × ℕ} (d, n) (c, m) = cc in (ap (λ (p : Bool × ℕ). p.0) z, ap (λ (p : Bool × ℕ). p.1) z)
 
 -- what is said tells the answer
-pub said_one : (r q : Read) → said r ≡ said q → r ≡ q
-said_one (Forward n) (Forward m) e = ap Forward (given n m e).1
-said_one (Reversed n) (Reversed m) e = ap Reversed (given n m e).1
-said_one (Refused a) (Refused b) e = ap Refused (refuses_one a b e)
-said_one (Forward n) (Reversed m) e = let d : false ≡ true = (given n m e).0 in let z : ◌≡◌ {A = ℕ} 0 1 = cc in absurd (omega arith)
-said_one (Reversed n) (Forward m) e = let d : true ≡ false = (given n m e).0 in let z : ◌≡◌ {A = ℕ} 0 1 = cc in absurd (omega arith)
-said_one (Forward n) (Refused b) e = gives_refuses (false, n) (number_of b) e
-said_one (Reversed n) (Refused b) e = gives_refuses (true, n) (number_of b) e
-said_one (Refused a) (Forward n) e = gives_refuses (false, n) (number_of a) (sym e)
-said_one (Refused a) (Reversed n) e = gives_refuses (true, n) (number_of a) (sym e)
+pub said_one : (r q : Result Read Reason) → said r ≡ said q → r ≡ q
+said_one (Ok (Forward n)) (Ok (Forward m)) e = ap (λ (k : ℕ). Ok (Forward k)) (given n m e).1
+said_one (Ok (Reversed n)) (Ok (Reversed m)) e = ap (λ (k : ℕ). Ok (Reversed k)) (given n m e).1
+said_one (Err a) (Err b) e = ap Err (refuses_one a b e)
+said_one (Ok (Forward n)) (Ok (Reversed m)) e = let d : false ≡ true = (given n m e).0 in let z : ◌≡◌ {A = ℕ} 0 1 = cc in absurd (omega arith)
+said_one (Ok (Reversed n)) (Ok (Forward m)) e = let d : true ≡ false = (given n m e).0 in let z : ◌≡◌ {A = ℕ} 0 1 = cc in absurd (omega arith)
+said_one (Ok (Forward n)) (Err b) e = gives_refuses (false, n) (number_of b) e
+said_one (Ok (Reversed n)) (Err b) e = gives_refuses (true, n) (number_of b) e
+said_one (Err a) (Ok (Forward n)) e = gives_refuses (false, n) (number_of a) (sym e)
+said_one (Err a) (Ok (Reversed n)) e = gives_refuses (true, n) (number_of a) (sym e)
 
 -- any two outcomes that a reading's promise allows are equal: the answer and every lent byte
-pub reads_one : (f : Format) (s : List ℕ) (bits : ℕ) (out : List ℕ) (r q : Read) (x y : List ℕ)
+pub reads_one : (f : Format) (s : List ℕ) (bits : ℕ) (out : List ℕ) (r q : Result Read Reason) (x y : List ℕ)
     → Reads f s bits out r x → Reads f s bits out q y → (r ≡ q) × (x ≡ y)
 reads_one f s bits out r q x y a b = (said_one r q (a.0 ∙ sym b.0), a.1 ∙ sym b.1)
 
 -- what a shape may be, it may be without looks of two characters
 pub plain-sound : (h : Shape) → Sound h → Sound (plain h)
-plain-sound h ok =
-    record {
-      any = ok.any;
-      few = ok.few;
-      low = ok.low;
-      short = ok.short;
-      some = ok.some;
-      start_fits = ok.start_fits;
-      four = λ e. absurd (false≢true e);
-      first_is = ok.first_is;
-    }
+plain-sound h _ = sound (plain h)
 
 -- "The faster reading must give the same answer, number and output bytes as the plain one for every stream": what read_either promises of
 -- a shape, and of the same track read one character after another
-pub same_as_plain : (h : Shape) (s : List ℕ) (bits : ℕ) (out : List ℕ) (r q : Read) (x y : List ℕ)
+pub same_as_plain : (h : Shape) (s : List ℕ) (bits : ℕ) (out : List ℕ) (r q : Result Read Reason) (x y : List ℕ)
     → Reads (format_of h) s bits out r x → Reads (format_of (plain h)) s bits out q y → (r ≡ q) × (x ≡ y)
 same_as_plain h = reads_one (format_of h)
 

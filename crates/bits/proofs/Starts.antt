@@ -9,10 +9,12 @@ use native.Mathlib.Nat.{not-suc-le-zero, le_of_suc-le-suc, mod-eq_of_lt}
 use lib.ListN.{length, get_or, take, drop, length-drop}
 use lib.Seq.{drop-drop, drop-cons}
 use Rattle.reasons.specs.Reasons.{refuses, demand}
-use Rattle.stream.specs.Stream.{number, stream, bits_of}
+use Rattle.stream.specs.Stream.{number, bits_of}
+use Rattle.stream.specs.Bits.{all_bits}
+use Rattle.stream.specs.declared.Stream.{Stream}
 use Rattle.chars.specs.Reading.{begins, skip, body, read_one}
-use Rattle.chars.specs.Shape.{letters_of, format_of, Sound}
-use Rattle.chars.specs.declared.Shape.{Shape}
+use Rattle.chars.specs.Shape.{letters_of, format_of}
+use Rattle.chars.specs.declared.shape.Shape.{Shape}
 use Rattle.stream.proofs.Streams.{length-stream}
 use Rattle.stream.proofs.Numbers.{length-bits_of, number-bits_of}
 
@@ -50,50 +52,50 @@ skip_true [] b t e = cc
 skip_true (false ∷ s) b t e = skip_true s b t e
 skip_true (true ∷ s) b t e = cc
 
-module _ (h : Shape) (ok : Sound h) (v : Bool) (s : List ℕ) (c p : ℕ) (skipped : skip (stream v s c) ≡ drop p (stream v s c)) (at_most : p ≤ c) where
-  left : (q : ℕ) → length (drop q (stream v s c)) ≡ c - q
+module _ (h : Shape) (s : Stream) (p : ℕ) (skipped : skip (all_bits s) ≡ drop p (all_bits s)) (at_most : p ≤ s.count) where
+  left : (q : ℕ) → length (drop q (all_bits s)) ≡ s.count - q
   left q = rw (length-drop, length-stream)
 
-  by_test : (b : Bool) → begins (true ∷ bits_of h.size h.start) (drop p (stream v s c)) ≡ b
-      → demand b 8 (body (letters_of h.size h.last h.base) (h.limit - 1) h.first [] (drop (p + 1 + h.size) (stream v s c)))
-      ≡ read_one (format_of h) (stream v s c)
+  by_test : (b : Bool) → begins (true ∷ bits_of h.size h.start) (drop p (all_bits s)) ≡ b
+      → demand b 8 (body (letters_of h.size h.last h.base) (h.limit - 1) h.first [] (drop (p + 1 + h.size) (all_bits s)))
+      ≡ read_one (format_of h) (all_bits s)
   unfolding read_one
   by_test b e =
       let q : p + suc h.size ≡ p + 1 + h.size = omega arith in
-      rw (skipped, e, ok.first_is, drop-drop, q)
+      rw (skipped, e, h.first_is, drop-drop, q)
 
-  pub start_cut : c - p ≤ h.size → refuses 8 ≡ read_one (format_of h) (stream v s c)
-  start_cut k = by_test false (begins_short (true ∷ bits_of h.size h.start) (drop p (stream v s c)) (rw (left p, length-bits_of) (omega arith)))
+  pub start_cut : s.count - p ≤ h.size → refuses 8 ≡ read_one (format_of h) (all_bits s)
+  start_cut k = by_test false (begins_short (true ∷ bits_of h.size h.start) (drop p (all_bits s)) (rw (left p, length-bits_of) (omega arith)))
 
-  module _ (k : h.size < c - p) (x : ℕ) (e : x ≡ number (take h.size (drop (p + 1) (stream v s c)))) where
-    one_first : drop p (stream v s c) ≡ true ∷ drop (p + 1) (stream v s c)
+  module _ (k : h.size < s.count - p) (x : ℕ) (e : x ≡ number (take h.size (drop (p + 1) (all_bits s)))) where
+    one_first : drop p (all_bits s) ≡ true ∷ drop (p + 1) (all_bits s)
     one_first =
-        let d : drop p (stream v s c) ≡ get_or (stream v s c) p false ∷ drop (p + 1) (stream v s c) =
-        rw add-one (drop-cons (stream v s c) p false (rw length-stream (omega arith))) in
-        let t : get_or (stream v s c) p false ≡ true = skip_true (stream v s c) _ _ (skipped ∙ d) in
-        d ∙ ap (λ (b : Bool). b ∷ drop (p + 1) (stream v s c)) t
+        let d : drop p (all_bits s) ≡ get_or (all_bits s) p false ∷ drop (p + 1) (all_bits s) =
+        rw add-one (drop-cons (all_bits s) p false (rw length-stream (omega arith))) in
+        let t : get_or (all_bits s) p false ≡ true = skip_true (all_bits s) _ _ (skipped ∙ d) in
+        d ∙ ap (λ (b : Bool). b ∷ drop (p + 1) (all_bits s)) t
 
-    rest : begins (true ∷ bits_of h.size h.start) (drop p (stream v s c)) ≡ begins (bits_of h.size h.start) (drop (p + 1) (stream v s c))
+    rest : begins (true ∷ bits_of h.size h.start) (drop p (all_bits s)) ≡ begins (bits_of h.size h.start) (drop (p + 1) (all_bits s))
     unfolding begins
     rest = rw one_first
 
     start_is : number (bits_of h.size h.start) ≡ h.start
-    start_is = number-bits_of h.size h.start ∙ mod-eq_of_lt ok.start_fits
+    start_is = number-bits_of h.size h.start ∙ mod-eq_of_lt h.start_fits
 
-    long : length (bits_of h.size h.start) ≤ length (drop (p + 1) (stream v s c))
+    long : length (bits_of h.size h.start) ≤ length (drop (p + 1) (all_bits s))
     long = rw (length-bits_of, left (p + 1)) (omega arith)
 
-    after_first : number (take (length (bits_of h.size h.start)) (drop (p + 1) (stream v s c))) ≡ x
+    after_first : number (take (length (bits_of h.size h.start)) (drop (p + 1) (all_bits s))) ≡ x
     after_first = rw length-bits_of (sym e)
 
-    pub start_other : (x ≡ h.start → ⊥) → refuses 8 ≡ read_one (format_of h) (stream v s c)
+    pub start_other : (x ≡ h.start → ⊥) → refuses 8 ≡ read_one (format_of h) (all_bits s)
     start_other o =
-        by_test false (rest ∙ begins_ne (bits_of h.size h.start) (drop (p + 1) (stream v s c)) long
+        by_test false (rest ∙ begins_ne (bits_of h.size h.start) (drop (p + 1) (all_bits s)) long
         (λ q. o (sym after_first ∙ q ∙ start_is)))
 
     pub start_found : x ≡ h.start
-        → body (letters_of h.size h.last h.base) (h.limit - 1) h.first [] (drop (p + 1 + h.size) (stream v s c))
-        ≡ read_one (format_of h) (stream v s c)
+        → body (letters_of h.size h.last h.base) (h.limit - 1) h.first [] (drop (p + 1 + h.size) (all_bits s))
+        ≡ read_one (format_of h) (all_bits s)
     start_found o =
-        by_test true (rest ∙ begins_eq (bits_of h.size h.start) (drop (p + 1) (stream v s c)) long
+        by_test true (rest ∙ begins_eq (bits_of h.size h.start) (drop (p + 1) (all_bits s)) long
         (after_first ∙ o ∙ sym (start_is)))

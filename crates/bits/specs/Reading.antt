@@ -1,11 +1,12 @@
 -- Reading a track from its bits, either way round.
-use Rattle.std.specs.Prelude.{◌≡◌, Bool, true, false, ◌&&◌, cond, List, reverse, ℕ, ◌-◌, ◌*◌, length, leb, eqb}
+use Rattle.std.specs.Prelude.{◌≡◌, Bool, true, false, ◌&&◌, cond, List, reverse, ℕ, ◌-◌, ◌*◌, length, leb, eqb, Result, Ok, Err}
 use Rattle.text.specs.Numbers.{put}
+use Rattle.reasons.specs.declared.Reason.{Reason}
 use Rattle.reasons.specs.Reasons.{number_of, Outcome, gives, refuses, demand, and_then, after}
 use Rattle.stream.specs.Stream.{stream}
 use Rattle.chars.specs.Reading.{Format, read_one}
 use Rattle.bits.specs.declared.Read.{Read}
-use Rattle.bits.specs.declared.Read.TheVariants.{Forward, Reversed, Refused}
+use Rattle.bits.specs.declared.Read.TheVariants.{Forward, Reversed}
 
 -- what a reading either way round gives: the direction, and the characters strictly between the sentinels
 pub record Track : Type 0 where
@@ -43,15 +44,15 @@ abbrev pub read_bytes : Format → List ℕ → ℕ → List ℕ → List ℕ
 read_bytes f s count out = bytes_after (read_rule f s count (length out)) out
 
 -- what an answer says: the direction and the count of the characters, or the number
-abbrev pub said : Read → Outcome (Bool × ℕ)
-said (Forward n) = gives (false, n)
-said (Reversed n) = gives (true, n)
-said (Refused r) = refuses (number_of r)
+abbrev pub said : Result Read Reason → Outcome (Bool × ℕ)
+said (Ok (Forward n)) = gives (false, n)
+said (Ok (Reversed n)) = gives (true, n)
+said (Err r) = refuses (number_of r)
 
 -- "with their count and the direction"
 abbrev pub counted : Outcome Track → Outcome (Bool × ℕ)
 counted o = and_then o (λ t. gives (t.reversed, length t.chars))
 
 -- what a reading either way round promises: its answer, and the output after it
-abbrev pub Reads : Format → List ℕ → ℕ → List ℕ → Read → List ℕ → Type 0
+abbrev pub Reads : Format → List ℕ → ℕ → List ℕ → Result Read Reason → List ℕ → Type 0
 Reads f s bits old r new = (said r ≡ counted (read_rule f s bits (length old))) × (new ≡ read_bytes f s bits old)

@@ -1,10 +1,11 @@
 // The battery swap: forty payments in a journal of 16 slots. In the middle the clock starts at the epoch again, while the host's date goes on; releases
 // arrive late and twice; the journal is full for a while. Nothing is lost.
+use call_records::Script;
 use dates::Date;
 use held::Told;
-use plays::Totals;
-use replay::Replayed;
-use samples::{EVERY, NONE, W11};
+use payer::Terms;
+use plays::{Totals, Unplayed};
+use samples::{EVERY, NONE};
 use say::Output;
 
 // The spring, a byte a call: `p` a payment by a booking, `s` one by a swipe, `?` a record of no known kind, any other a release up to its number less
@@ -15,10 +16,7 @@ const SPRING: [u8; 50] = *b"pspspspspspsDpspspspspsJJpspspsIZpspspspspspspsa~?";
 
 // What the clock says at call n, two days after the one before; the battery is changed before the 23rd, unless it is good.
 fn clock_at(n: u8, good: bool) -> u32 {
-    if good {
-        return 1740787200 + 172800 * (n as u32);
-    }
-    if n < 22 {
+    if good || n < 22 {
         return 1740787200 + 172800 * (n as u32);
     }
     172800 * ((n - 22) as u32)
@@ -47,35 +45,24 @@ fn date_at(n: u8) -> Date {
     day_of(6, passed - 91)
 }
 
-fn swipe(script: &mut [u8; 6400], n: u8, amount: u32, clock: u32) {
-    let w11 = W11;
-    call_records::swipe2(script, n, amount, date_at(n), clock, 135, &w11);
-}
-
 // Call n of the spring. No two payments have the same amount, so that one for another would show.
-fn call(script: &mut [u8; 6400], n: u8, b: u8, good: bool) {
+fn call(script: &mut Script<6400>, n: u8, b: u8, good: bool) {
     let amount = 100 + 10 * (n as u32);
     let clock = clock_at(n, good);
-    if b == b'p' {
-        call_records::book(script, n, amount, clock);
-        return;
+    match b {
+        b'p' => script.book(amount, clock),
+        b's' => script.swipe2(call_records::w11(amount, date_at(n), clock)),
+        0..=63 => script.unknown(),
+        _ => script.release((b - 64) as u32),
     }
-    if b == b's' {
-        swipe(script, n, amount, clock);
-        return;
-    }
-    if b < 64 {
-        call_records::unknown(script, n);
-        return;
-    }
-    call_records::release(script, n, (b - 64) as u32);
 }
 
-fn spring(script: &mut [u8; 6400], good: bool) {
-    let calls = SPRING;
-    for n in 0..50u8 {
-        call(script, n, calls[n as usize], good);
+fn spring(good: bool) -> Script<6400> {
+    let mut script: Script<6400> = Script::new();
+    for (n, &b) in SPRING.iter().enumerate() {
+        call(&mut script, n as u8, b, good);
     }
+    script
 }
 
 // ---- what it comes to
@@ -88,14 +75,14 @@ fn all_there(takings: u64, remitted: u64, held: u64) -> bool {
     takings - held == remitted
 }
 
-fn counts(out: &mut Output, t: Totals, count: u32, sum: u64) {
+fn counts(out: &mut Output, t: Totals, left: Told) {
     let numbers = [
         t.booked,
         t.takings,
         t.released,
         t.remitted,
-        count as u64,
-        sum,
+        left.count as u64,
+        left.sum,
         t.refused,
         t.skipped,
     ];
@@ -106,56 +93,61 @@ fn counts(out: &mut Output, t: Totals, count: u32, sum: u64) {
     );
 }
 
-fn outcome(out: &mut Output, t: Totals, count: u32, sum: u64) {
-    counts(out, t, count, sum);
-    if all_there(t.takings, t.remitted, sum) {
+fn outcome(out: &mut Output, t: Totals, left: Told) {
+    counts(out, t, left);
+    if all_there(t.takings, t.remitted, left.sum) {
         say::words(out, b": nothing lost\n");
     } else {
         say::words(out, b": LOST\n");
     }
 }
 
-pub fn not_whole(out: &mut Output) {
-    say::words(out, b"no whole number of records\n");
-}
-
-pub fn too_long(out: &mut Output) {
-    say::words(out, b"too many records\n");
+pub fn unplayed(out: &mut Output, why: Unplayed) {
+    match why {
+        Unplayed::NotWhole => say::words(out, b"no whole number of records\n"),
+        Unplayed::TooLong => say::words(out, b"too many records\n"),
+    }
 }
 
 // The totals of a script, and what the journal holds after it.
 pub fn told(out: &mut Output, t: Totals, journal: &[u8]) {
     match held::tell(journal) {
-        Told::Held(count, sum, _, _) => outcome(out, t, count, sum),
-        Told::Refused(why) => say::refused(out, why),
+        Ok(left) => outcome(out, t, left),
+        Err(why) => say::refused(out, why),
     }
 }
 
-// A script played on a journal, with this table of ranges and scratch for either track.
-pub fn played(out: &mut Output, script: &[u8], site: &[u8], journal: &mut [u8]) {
-    let none = NONE;
+// A table of one range that every card fits, and a list that blocks none.
+pub fn terms() -> Terms<'static> {
+    Terms {
+        site: &EVERY,
+        acquirer: b"",
+        hot: &NONE,
+        digits: 16,
+    }
+}
+
+// A script played on a journal, with scratch for either track.
+pub fn played(out: &mut Output, script: &[u8], journal: &mut [u8]) {
     let mut scratch = [0u8; 76];
-    match replay::replay(script, site, b"", &none, 16, &mut scratch, journal) {
-        Replayed::Played(t) => told(out, t, journal),
-        Replayed::NotWhole => not_whole(out),
-        Replayed::TooLong => too_long(out),
+    match replay::replay(script, terms(), &mut scratch, journal) {
+        Ok(t) => told(out, t, journal),
+        Err(why) => unplayed(out, why),
     }
 }
 
 // The first n calls, played on an all-zero journal.
 fn after(out: &mut Output, words: &[u8], script: &[u8], n: u8) {
-    let every = EVERY;
     let mut journal = [0u8; 512];
     say::words(out, words);
     played(
         out,
         text::piece(script, 0, 128 * (n as usize)),
-        &every,
         &mut journal,
     );
 }
 
-fn until_full(out: &mut Output, script: &[u8; 6400]) {
+fn until_full(out: &mut Output, script: &[u8]) {
     after(out, b"the first four released: ", script, 13);
     after(out, b"the journal full: ", script, 21);
     after(
@@ -168,7 +160,7 @@ fn until_full(out: &mut Output, script: &[u8; 6400]) {
     after(out, b"the same once more: ", script, 25);
 }
 
-fn from_then_on(out: &mut Output, script: &[u8; 6400]) {
+fn from_then_on(out: &mut Output, script: &[u8]) {
     after(out, b"full again: ", script, 31);
     after(out, b"an older release: ", script, 32);
     after(out, b"all released: ", script, 33);
@@ -176,10 +168,9 @@ fn from_then_on(out: &mut Output, script: &[u8; 6400]) {
 }
 
 fn play(out: &mut Output, good: bool) {
-    let mut script = [0u8; 6400];
-    spring(&mut script, good);
-    until_full(out, &script);
-    from_then_on(out, &script);
+    let script = spring(good);
+    until_full(out, script.written());
+    from_then_on(out, script.written());
 }
 
 pub fn run(out: &mut Output) {

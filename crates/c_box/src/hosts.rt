@@ -1,6 +1,6 @@
 ghost use Rattle.c_box.specs.Calls.{LedgerTakes};
 
-use ledger::{Ledger, Taken};
+use ledger::Ledger;
 
 // A message to the host's ledger, whose two numbers stand behind the pointers.
 pub fn ledger_take(message: &[u8], taken: &mut u32, total: &mut u64) -> u32
@@ -11,11 +11,11 @@ pub fn ledger_take(message: &[u8], taken: &mut u32, total: &mut u64) -> u32
         total: *total,
     };
     match ledger::take(before, message) {
-        Taken::Now(after) => {
+        Ok(after) => {
             *taken = after.taken;
             *total = after.total;
             0
         }
-        Taken::Refused(why) => reasons::number(why),
+        Err(why) => reasons::number(why),
     }
 }

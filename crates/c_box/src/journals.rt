@@ -1,10 +1,6 @@
 // The journal: journal_book, journal_release, journal_show, journal_tell, journal_survey.
 ghost use Rattle.c_box.specs.Calls.{JournalBooks, JournalReleases, JournalShows, JournalTells, JournalSurveys};
 
-use held::{Shown, Told};
-use journal::{Booked, Released};
-use surveys::Surveyed;
-
 pub fn journal_book(
     journal: &mut [u8],
     pan: &[u8],
@@ -17,11 +13,11 @@ pub fn journal_book(
         serial.old result serial.new journal.new }
 {
     match journal::book(journal, pan, label, amount, clock) {
-        Booked::Serial(s) => {
+        Ok(s) => {
             *serial = s;
             0
         }
-        Booked::Refused(why) => reasons::number(why),
+        Err(why) => reasons::number(why),
     }
 }
 
@@ -30,12 +26,12 @@ pub fn journal_release(journal: &mut [u8], serial: u32, count: &mut u32, sum: &m
         (count.old, sum.old) result (count.new, sum.new) journal.new }
 {
     match journal::release(journal, serial) {
-        Released::Those(c, y) => {
-            *count = c;
-            *sum = y;
+        Ok(released) => {
+            *count = released.count;
+            *sum = released.sum;
             0
         }
-        Released::Refused(why) => reasons::number(why),
+        Err(why) => reasons::number(why),
     }
 }
 
@@ -43,11 +39,11 @@ pub fn journal_show(journal: &[u8], serial: u32, at: &mut u32) -> u32
     ensures { JournalShows journal.now serial at.old result at.new }
 {
     match held::find(journal, serial) {
-        Shown::At(a) => {
+        Ok(a) => {
             *at = a as u32;
             0
         }
-        Shown::Refused(why) => reasons::number(why),
+        Err(why) => reasons::number(why),
     }
 }
 
@@ -63,14 +59,14 @@ pub fn journal_tell(
         (count.new, sum.new, oldest.new, newest.new) }
 {
     match held::tell(journal) {
-        Told::Held(c, y, o, b) => {
-            *count = c;
-            *sum = y;
-            *oldest = o;
-            *newest = b;
+        Ok(told) => {
+            *count = told.count;
+            *sum = told.sum;
+            *oldest = told.oldest;
+            *newest = told.newest;
             0
         }
-        Told::Refused(why) => reasons::number(why),
+        Err(why) => reasons::number(why),
     }
 }
 
@@ -78,14 +74,10 @@ pub fn journal_survey(journal: &[u8], states: &mut [u8], formed: &mut u32) -> u3
     ensures { JournalSurveys journal.now states.old formed.old result formed.new states.new }
 {
     match surveys::survey(journal, states) {
-        Surveyed::Formed => {
-            *formed = 1;
+        Ok(well) => {
+            *formed = well as u32;
             0
         }
-        Surveyed::Malformed => {
-            *formed = 0;
-            0
-        }
-        Surveyed::Refused(why) => reasons::number(why),
+        Err(why) => reasons::number(why),
     }
 }

@@ -1,19 +1,16 @@
-ghost use Rattle.payer.specs.Payer.{terms, given};
+ghost use Rattle.payer.specs.Payer.{terms_of, given};
 ghost use Rattle.c_box.specs.Calls.{Swipes};
 
-use dates::{Date, Left};
+use dates::Date;
 use layout::Track;
-use swipe::Swiped;
+use payer::Terms;
 
 // A swipe of this track, its serial handed over, whether the card expires, and the days left where it does.
 pub fn swipe(
     track: Track,
     stream: &[u8],
     bits: u64,
-    site: &[u8],
-    acquirer: &[u8],
-    hot: &[u64],
-    digits: u32,
+    terms: Terms,
     amount: u32,
     date: Date,
     clock: u32,
@@ -23,27 +20,27 @@ pub fn swipe(
     expires: &mut u32,
     days: &mut u32,
 ) -> u32
-    ensures { Swipes (given track stream.now bits (terms site.now acquirer.now hot.now digits)
-        date) amount clock scratch.old journal.old (serial.old, expires.old, days.old)
+    ensures { Swipes (given track stream.now bits (terms_of terms.entry) date) amount clock
+        scratch.old journal.old (serial.old, expires.old, days.old)
         result (serial.new, expires.new, days.new) scratch.new journal.new }
 {
     match swipe::swipe(
-        track, stream, bits, site, acquirer, hot, digits, amount, date, clock, scratch, journal,
+        track, stream, bits, terms, amount, date, clock, scratch, journal,
     ) {
-        Swiped::Booked(s, left) => {
-            *serial = s;
-            match left {
-                Left::Days(d) => {
+        Ok(receipt) => {
+            *serial = receipt.serial;
+            match receipt.left {
+                Some(left) => {
                     *expires = 1;
-                    *days = d;
+                    *days = left;
                     0
                 }
-                Left::NoExpiry => {
+                None => {
                     *expires = 0;
                     0
                 }
             }
         }
-        Swiped::Refused(why) => reasons::number(why),
+        Err(why) => reasons::number(why),
     }
 }

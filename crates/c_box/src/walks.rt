@@ -1,16 +1,13 @@
 // Walks: journal_walk, whose every step checks the journal; walk_start, which checks it once, and walk_step, which does not.
 ghost use Rattle.c_box.specs.Calls.{JournalWalks, WalkStarts, WalkSteps};
 
-use held::{Shown, Told};
-use slots::Newest;
-
 // The first held record above a serial; serial 0 and place 0 say done.
 pub fn journal_walk(journal: &[u8], above: u32, serial: &mut u32, at: &mut u32) -> u32
     ensures { JournalWalks journal.now above (serial.old, at.old) result (serial.new, at.new) }
 {
     match slots::newest_of(journal) {
-        Newest::Malformed => 16,
-        Newest::Is(b) => {
+        None => 16,
+        Some(b) => {
             let s = walker::inner::first_above(journal, b, above);
             *serial = s;
             *at = walker::inner::place_or_zero(journal, s);
@@ -24,11 +21,11 @@ pub fn walk_start(journal: &[u8], serial: &mut u32) -> u32
     ensures { WalkStarts journal.now serial.old result serial.new }
 {
     match held::tell(journal) {
-        Told::Held(_, _, o, _) => {
-            *serial = o;
+        Ok(told) => {
+            *serial = told.oldest;
             0
         }
-        Told::Refused(why) => reasons::number(why),
+        Err(reason) => reasons::number(reason),
     }
 }
 
@@ -37,11 +34,11 @@ pub fn walk_step(journal: &[u8], serial: u32, at: &mut u32, next: &mut u32) -> u
     ensures { WalkSteps journal.now serial (at.old, next.old) result (at.new, next.new) }
 {
     match walker::find_held(journal, serial) {
-        Shown::At(a) => {
+        Ok(a) => {
             *at = a as u32;
             *next = walker::next_of(journal, serial);
             0
         }
-        Shown::Refused(why) => reasons::number(why),
+        Err(why) => reasons::number(why),
     }
 }

@@ -1,7 +1,7 @@
 // Card numbers: pan_mask, range_find, hot_find.
 ghost use Rattle.c_numbers.specs.Calls.{PanMasks, RangeFinds, HotFinds};
 
-use ranges::Found;
+use ranges::Place;
 
 pub fn pan_mask(pan: &[u8], out: &mut [u8]) -> u32
     ensures { PanMasks pan.now out.old result out.new }
@@ -14,17 +14,17 @@ pub fn range_find(site: &[u8], acquirer: &[u8], pan: &[u8], table: &mut u32, at:
         (table.old, at.old) result (table.new, at.new) }
 {
     match ranges::find(site, acquirer, pan) {
-        Found::Site(a) => {
+        Ok(Place::Site(a)) => {
             *table = 0;
             *at = a as u32;
             0
         }
-        Found::Acquirer(a) => {
+        Ok(Place::Acquirer(a)) => {
             *table = 1;
             *at = a as u32;
             0
         }
-        Found::Refused(why) => reasons::number(why),
+        Err(why) => reasons::number(why),
     }
 }
 
@@ -32,14 +32,10 @@ pub fn hot_find(list: &[u64], digits: u32, pan: &[u8], listed: &mut u32) -> u32
     ensures { HotFinds list.now digits pan.now listed.old result listed.new }
 {
     match hotlist::find(list, digits, pan) {
-        hotlist::Found::Listed => {
-            *listed = 1;
+        Ok(yes) => {
+            *listed = u32::from(yes);
             0
         }
-        hotlist::Found::Unlisted => {
-            *listed = 0;
-            0
-        }
-        hotlist::Found::Refused(why) => reasons::number(why),
+        Err(why) => reasons::number(why),
     }
 }

@@ -1,8 +1,6 @@
 // Luhn: luhn_test, luhn_make.
 ghost use Rattle.c_numbers.specs.Calls.{LuhnTests, LuhnMakes};
 
-use luhn::Made;
-
 pub fn luhn_test(text: &[u8]) -> u32
     ensures { LuhnTests text.now result }
 {
@@ -12,11 +10,5 @@ pub fn luhn_test(text: &[u8]) -> u32
 pub fn luhn_make(body: &[u8], digit: &mut u8) -> u32
     ensures { LuhnMakes body.now digit.old result digit.new }
 {
-    match luhn::make(body) {
-        Made::Digit(b) => {
-            *digit = b;
-            0
-        }
-        Made::Refused(why) => reasons::number(why),
-    }
+    hands::hand(luhn::make(body), digit)
 }

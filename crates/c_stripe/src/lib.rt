@@ -5,31 +5,30 @@ ghost use Rattle.std.specs.Prelude.{◌≡◌, ◌<◌};
 ghost use Rattle.bits.specs.Reading.{said};
 ghost use Rattle.track2.specs.Track2.{track2};
 ghost use Rattle.track1.specs.Track1.{track1};
-ghost use Rattle.layout.specs.Layout.{field_cut};
-ghost use Rattle.c_stripe.specs.Values.{counts_told, chars_in};
+ghost use Rattle.c_stripe.specs.Values.{counts_told, chars_in, start_of};
 ghost use Rattle.hands.specs.Hands.{Hands};
 ghost use Rattle.c_stripe.specs.Calls.{TrackReads, LayoutReads, Layout1Reads};
 
 use bits::Read;
-use layout::Field;
+use reasons::Reason;
 
 // Hands over what a reading answers: how many characters it has, and whether it was read reversed.
-fn hand_over(read: Read, count: &mut u32, reversed: &mut u32) -> u32
+fn hand_over(read: Result<Read, Reason>, count: &mut u32, reversed: &mut u32) -> u32
     requires { chars_in read < 100 }
     ensures { Hands (said read) (count.old, reversed.old) counts_told result (count.new, reversed.new) }
 {
     match read {
-        Read::Forward(n) => {
+        Ok(Read::Forward(n)) => {
             *count = n as u32;
             *reversed = 0;
             0
         }
-        Read::Reversed(n) => {
+        Ok(Read::Reversed(n)) => {
             *count = n as u32;
             *reversed = 1;
             0
         }
-        Read::Refused(why) => reasons::number(why),
+        Err(why) => reasons::number(why),
     }
 }
 
@@ -60,14 +59,11 @@ pub fn track1_read(
 }
 
 // Where a field stands, 0 for an absent one.
-fn place(f: Field) -> u32
-    requires { (field_cut 0 f).start < 100 }
-    ensures { result ≡ (field_cut 0 f).start }
+fn place(field: Option<usize>) -> u32
+    requires { start_of field < 100 }
+    ensures { result ≡ start_of field }
 {
-    match f {
-        Field::At(at) => at as u32,
-        Field::Absent => 0,
-    }
+    field.unwrap_or(0) as u32
 }
 
 pub fn layout_read(
@@ -82,19 +78,14 @@ pub fn layout_read(
         (pan.new, expiry.new, service.new, rest.new) }
 {
     match layout::divide(chars) {
-        layout::Division::Fields {
-            pan: p,
-            expiry: e,
-            service: v,
-            rest: r,
-        } => {
-            *pan = p as u32;
-            *expiry = place(e);
-            *service = place(v);
-            *rest = r as u32;
+        Ok(d) => {
+            *pan = d.pan as u32;
+            *expiry = place(d.expiry);
+            *service = place(d.service);
+            *rest = d.rest as u32;
             0
         }
-        layout::Division::Refused(why) => reasons::number(why),
+        Err(why) => reasons::number(why),
     }
 }
 
@@ -111,20 +102,14 @@ pub fn layout1_read(
         (pan.new, name.new, expiry.new, service.new, rest.new) }
 {
     match layout1::divide(chars) {
-        layout1::Division::Fields {
-            pan: p,
-            name: n,
-            expiry: e,
-            service: v,
-            rest: d,
-        } => {
-            *pan = p as u32;
-            *name = n as u32;
-            *expiry = place(e);
-            *service = place(v);
-            *rest = d as u32;
+        Ok(f) => {
+            *pan = f.pan as u32;
+            *name = f.name as u32;
+            *expiry = place(f.expiry);
+            *service = place(f.service);
+            *rest = f.rest as u32;
             0
         }
-        layout1::Division::Refused(why) => reasons::number(why),
+        Err(why) => reasons::number(why),
     }
 }

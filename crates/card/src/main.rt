@@ -1,132 +1,97 @@
 // card: reads commands from standard input, one a line, and writes the answer to each. Its arguments say which journal they are on.
 #![tactic(auto)]
 
-ghost use Rattle.std.specs.Prelude.{◌*◌, ◌≤◌, length};
-
-use disk::{Opened, Stored, Use};
-use held::Told;
-use lock::Taken;
-use options::{Asked, notices};
+use disk::{Fault, Opened, Step};
+use keeping::Desk;
+use lock::NotTaken;
+use options::{Asked, Size, Way, notices};
+use payments::Access;
 use std::env::FillError;
 use std::fs::File;
+use std::io::ErrorKind;
 use std::rt::{Env, Files};
-use waiting::Streams;
+use waiting::{Output, Streams};
 
 // The options, then the commands.
 fn help(streams: Streams) {
-    let mut out = waiting::nothing(streams);
+    let mut out = Output::new(streams);
     notices::help(streams);
     menu::help(&mut out);
-    waiting::flush(&mut out);
+    out.flush();
+}
+
+// Takes commands, at a terminal by a prompt.
+fn run_on(streams: Streams, desk: &mut Desk) {
+    desk.prompt = notices::at_terminal(streams);
+    commands::run(streams, desk);
 }
 
 fn in_memory(streams: Streams) {
-    let mut journal = [0u8; 65537];
-    let mut st = keeping::in_memory(false);
-    st.prompt = notices::at_terminal(streams);
+    let mut desk = Desk::new(false);
     notices::formed(streams, b"a journal in memory", 65536, 0);
-    commands::run(streams, &mut journal, st);
+    run_on(streams, &mut desk);
 }
 
 // ---- an open file
 
-// Takes commands on the n bytes of a file.
-fn run_on(streams: Streams, journal: &mut [u8], n: usize, file: File, read_only: bool) {
-    let mut st = keeping::in_memory(false);
-    st.length = n;
-    st.file = Some(file);
-    st.read_only = read_only;
-    st.prompt = notices::at_terminal(streams);
-    commands::run(streams, journal, st);
+// What could not be done with a journal; where there is none, how one is made.
+fn failed(streams: Streams, name: &[u8], fault: Fault) {
+    let missing = fault.step == Step::Open && fault.why.kind() == ErrorKind::NotFound;
+    notices::failed(streams, name, fault.step, fault.why);
+    if missing {
+        notices::missing(streams);
+    }
 }
 
 // A well formed journal: what was read is seen on the disk before the first answer, unless it is only read.
-fn run_formed(
-    streams: Streams,
-    name: &[u8],
-    journal: &mut [u8],
-    n: usize,
-    file: File,
-    read_only: bool,
-    held: u32,
-)
-    requires { n ≤ length journal.old }
-{
-    if !read_only {
-        match disk::write_back(&file, &journal[0..n]) {
-            Stored::Synced => {}
-            Stored::NotWritten(why) => return notices::failed(streams, name, b"written", why),
-            Stored::NotSynced(why) => return notices::failed(streams, name, b"synced", why),
+fn run_formed(streams: Streams, name: &[u8], desk: &mut Desk, file: File, held: u32) {
+    if desk.journal.access == Access::Change {
+        if let Err(fault) = disk::write_back(&file, desk.journal.used()) {
+            return failed(streams, name, fault);
         }
     }
-    notices::formed(streams, name, n, held);
-    run_on(streams, journal, n, file, read_only);
+    notices::formed(streams, name, desk.journal.length, held);
+    desk.journal.file = Some(file);
+    run_on(streams, desk);
 }
 
-fn run_file(
-    streams: Streams,
-    name: &[u8],
-    journal: &mut [u8],
-    n: usize,
-    file: File,
-    read_only: bool,
-)
-    requires { n ≤ length journal.old }
-{
-    match held::tell(&journal[0..n]) {
-        Told::Held(held, _, _, _) => run_formed(streams, name, journal, n, file, read_only, held),
-        Told::Refused(_) => {
-            notices::malformed(streams, name, n);
-            run_on(streams, journal, n, file, read_only);
+fn run_file(streams: Streams, name: &[u8], desk: &mut Desk, file: File) {
+    match held::tell(desk.journal.used()) {
+        Ok(told) => run_formed(streams, name, desk, file, told.count),
+        Err(_) => {
+            notices::malformed(streams, name, desk.journal.length);
+            desk.journal.file = Some(file);
+            run_on(streams, desk);
         }
     }
 }
 
-fn run_opened(streams: Streams, name: &[u8], journal: &mut [u8], opened: Opened, read_only: bool)
-    requires { opened.length ≤ length journal.old }
-{
-    let n = opened.length;
-    match opened.usable {
-        Use::Ready(file) => run_file(streams, name, journal, n, file, read_only),
-        Use::NotOpened(why) => notices::not_opened(streams, name, why),
-        Use::NotRead(why) => notices::failed(streams, name, b"read", why),
-        Use::NotMade(why) => notices::failed(streams, name, b"made", why),
+fn run_opened(streams: Streams, name: &[u8], desk: &mut Desk, opened: Result<Opened, Fault>) {
+    match opened {
+        Ok(Opened { file, length }) => {
+            desk.journal.length = length;
+            run_file(streams, name, desk, file);
+        }
+        Err(fault) => failed(streams, name, fault),
     }
 }
 
 // ---- which file
 
-// The journal at a path, which this process alone uses: there already.
-fn run_there<R: Files<File = File>>(rt: &R, streams: Streams, name: &[u8], path: &[u8]) {
-    let mut journal = [0u8; 65537];
-    let opened = disk::open(rt, path, &mut journal);
-    run_opened(streams, name, &mut journal, opened, false);
-}
-
-// Made first, with so many bytes.
-fn run_made<R: Files<File = File>>(rt: &R, streams: Streams, name: &[u8], path: &[u8], bytes: usize)
-    requires { bytes ≤ 65536 }
-{
-    let mut journal = [0u8; 65537];
-    let opened = disk::make(rt, path, &journal[0..bytes]);
-    run_opened(streams, name, &mut journal, opened, false);
-}
-
-// The one or the other: the first where the bytes are 0.
+// The journal at a path, which this process alone uses: there already, or made first.
 fn run_alone<R: Files<File = File>>(
     rt: &R,
     streams: Streams,
     name: &[u8],
     path: &[u8],
-    bytes: usize,
-)
-    requires { bytes ≤ 65536 }
-{
-    if bytes == 0 {
-        run_there(rt, streams, name, path);
-    } else {
-        run_made(rt, streams, name, path, bytes);
-    }
+    new: Option<Size>,
+) {
+    let mut desk = Desk::new(false);
+    let opened = match new {
+        Some(size) => disk::make(rt, path, &desk.journal.bytes[..32 * size.slots]),
+        None => disk::open(rt, path, &mut desk.journal.bytes),
+    };
+    run_opened(streams, name, &mut desk, opened);
 }
 
 // Takes the lock first and leaves it last: nothing of the journal is read before, and nothing written after.
@@ -135,17 +100,15 @@ fn run_locked<R: Files<File = File>>(
     streams: Streams,
     name: &[u8],
     path: &[u8],
-    bytes: usize,
-)
-    requires { bytes ≤ 65536 }
-{
+    new: Option<Size>,
+) {
     match lock::take(rt, path) {
-        Taken::Held => {
-            run_alone(rt, streams, name, path, bytes);
+        Ok(()) => {
+            run_alone(rt, streams, name, path, new);
             lock::leave(rt, path);
         }
-        Taken::InUse(pid) => notices::in_use(streams, name, pid),
-        Taken::Failed(why) => notices::failed(streams, name, b"locked", why),
+        Err(NotTaken::InUse(pid)) => notices::in_use(streams, name, pid),
+        Err(NotTaken::Failed(why)) => notices::failed(streams, name, "locked", why),
     }
 }
 
@@ -153,75 +116,47 @@ fn run_locked<R: Files<File = File>>(
 fn existing<R: Files<File = File> + AllocGlobal>(rt: &R, streams: Streams, name: &[u8]) {
     let mut path = [0u8; 4096];
     match disk::resolve(rt, name, &mut path) {
-        Ok(n) => run_locked(rt, streams, name, &path[0..n], 0),
-        Err(why) => notices::not_opened(streams, name, why),
+        Ok(n) => run_locked(rt, streams, name, &path[..n], None),
+        Err(fault) => failed(streams, name, fault),
     }
 }
 
 // A file that isn't changed needs no lock.
 fn read_only<R: Files<File = File>>(rt: &R, streams: Streams, name: &[u8]) {
-    let mut journal = [0u8; 65537];
-    let opened = disk::open_to_read(rt, name, &mut journal);
-    run_opened(streams, name, &mut journal, opened, true);
-}
-
-// A new file. Its lock stands beside the name that it is to have, since nothing may be there yet.
-fn new<R: Files<File = File>>(rt: &R, streams: Streams, name: &[u8], slots: usize)
-    requires { slots ≤ 2048 }
-{
-    run_locked(rt, streams, name, name, 32 * slots);
+    let mut desk = Desk::new(false);
+    desk.journal.access = Access::Look;
+    let opened = disk::open_to_read(rt, name, &mut desk.journal.bytes);
+    run_opened(streams, name, &mut desk, opened);
 }
 
 // ---- what is asked
 
-// A journal by its name: made with so many slots, only read, or neither.
-fn on_name<R: Files<File = File> + AllocGlobal>(
-    rt: &R,
-    streams: Streams,
-    name: &[u8],
-    slots: usize,
-    only_read: bool,
-)
-    requires { slots ≤ 2048 }
-{
-    if name.len() == 0 {
-        notices::nameless(streams, false);
-    } else if only_read {
-        read_only(rt, streams, name);
-    } else if 0 < slots {
-        new(rt, streams, name, slots);
-    } else {
-        existing(rt, streams, name);
+fn on_name<R: Files<File = File> + AllocGlobal>(rt: &R, streams: Streams, name: &[u8], way: Way) {
+    match way {
+        Way::Change => existing(rt, streams, name),
+        Way::Look => read_only(rt, streams, name),
+        // a new one's lock stands beside the name that it is to have, since nothing may be there yet
+        Way::Make(size) => run_locked(rt, streams, name, name, Some(size)),
     }
 }
 
-// The same, by the number of the name's argument.
-fn named<R: Files<File = File> + Env + AllocGlobal>(
-    rt: &R,
-    streams: Streams,
-    i: usize,
-    slots: usize,
-    only_read: bool,
-)
-    requires { slots ≤ 2048 }
-{
+// A journal by the number of its name's argument.
+fn named<R: Files<File = File> + Env + AllocGlobal>(rt: &R, streams: Streams, way: Way, i: usize) {
     let mut name = [0u8; 4096];
     match rt.arg(i, &mut name) {
-        Ok(n) => on_name(rt, streams, &name[..n], slots, only_read),
-        Err(FillError::TooLong) => notices::nameless(streams, true),
-        Err(FillError::NotPresent) => notices::nameless(streams, false),
+        Ok(0) => notices::nameless(streams, FillError::NotPresent),
+        Ok(n) => on_name(rt, streams, &name[..n], way),
+        Err(why) => notices::nameless(streams, why),
     }
 }
 
 fn run<R: Files<File = File> + Env + AllocGlobal>(rt: &R, streams: Streams) {
     match options::read(rt) {
-        Asked::Memory => in_memory(streams),
-        Asked::Help => help(streams),
-        Asked::Version => notices::version(streams),
-        Asked::Existing(i) => named(rt, streams, i, 0, false),
-        Asked::ReadOnly(i) => named(rt, streams, i, 0, true),
-        Asked::New(i) => named(rt, streams, i, options::slots(rt), false),
-        Asked::Unclear(fault) => notices::usage(rt, streams, fault),
+        Ok(Asked::Memory) => in_memory(streams),
+        Ok(Asked::Help) => help(streams),
+        Ok(Asked::Version) => notices::version(streams),
+        Ok(Asked::Journal(way, i)) => named(rt, streams, way, i),
+        Err(fault) => notices::usage(rt, streams, fault),
     }
 }
 

@@ -11,19 +11,18 @@ use lib.Seq.{take_all}
 use borrow.Author.Tests.{eq-eqb}
 use Rattle.slots.specs.Record.{amount_at}
 use Rattle.slots.specs.Journal.{slots_of, Formed}
-use Rattle.slots.specs.declared.Newest.TheVariants.{Is}
 use Rattle.slots.proofs.Ranges.{tells_yes}
 use Rattle.held.specs.Held.{held_up_to, held_list, serial_of, sum_of}
 use Rattle.journal.specs.Rules.{Releases, release_bytes}
 use Rattle.journal.specs.declared.Released.{Released}
-use Rattle.journal.specs.declared.Released.TheVariants as released
+use Rattle.reasons.specs.declared.Reason.{Reason}
 use Rattle.journal.proofs.Rule.{release_done}
 use Rattle.history.specs.History.{Done, release, booked, highest, takings, freed_sum, freed_count, Demand3}
 use Rattle.history.proofs.Account.{Account, account}
 use Rattle.history.proofs.Demand.{zeros_open}
 use Rattle.history.proofs.Laws.{demand_3}
 use Rattle.ledger.specs.Ledger.{moved, Takes}
-use Rattle.ledger.specs.declared.Taken.TheVariants.{Now}
+use Rattle.std.proofs.Common.{Some, Result, Ok}
 use Rattle.ledger.proofs.Rule.{next_is, moves_on}
 use Rattle.channel.specs.Channel.{World, start, leaving, sending, answering, Nth, head_is, Act, sends, hears, is_answered, made}
 use Rattle.channel.specs.Channel.{Course, nothing_yet, and_then, box_sends, host_hears, box_hears, Settles}
@@ -33,8 +32,8 @@ use Rattle.channel.proofs.Laws.{wanted_is_held, last_answer_settles, same_booked
 
 -- a release up to a serial that was booked can be made
 release_can : (j : List ℕ) (b s : ℕ) → Formed j (slots_of j) b → 1 ≤ s → s ≤ b
-    → Releases j s (released.Those (length (held_up_to j b s)) (sum_of (held_up_to j b s))) (release_bytes (Is b) j s)
-release_can j b s f l h = record { view = Is b; is = f; so = (release_done j b s l h, refl) }
+    → Releases j s (Ok (record { count = length (held_up_to j b s); sum = sum_of (held_up_to j b s) })) (release_bytes (Some b) j s)
+release_can j b s f l h = record { view = Some b; is = f; so = (release_done j b s l h, refl) }
 
 -- ---- one course after another
 
@@ -75,14 +74,14 @@ module _ (n : ℕ) (least : 1 ≤ n) (most : n ≤ 2048) where
       let i = among_nth r (held_list w.journal (length (booked ds))) q.1 in
       let sent : Course w (sends i.0 ∷ []) [] (sending w r) = and_then nothing_yet (box_sends (length (booked ds)) three.formed i.1) in
       let kept : Kept (replicate (32 * n) 0) ds (sending w r) = course_kept n least most (course_quiet c sent) in
-      let takes : Takes w.ledger r (Now (moved w.ledger r)) =
+      let takes : Takes w.ledger r (Ok (moved w.ledger r)) =
       moves_on w.ledger r true (tells_yes (kept.sent r (Memᴰ.head refl)).held) refl kept.fine (w.ledger.taken + 1) (amount_at r 0)
       (sym q.2) refl
       (next_is w.ledger.taken (serial_of r) (omega (arith, a.fits)) ∙ eq-eqb (serial_of r) (w.ledger.taken + 1) q.2) in
       record {
         acts = hears 0 ∷ sends i.0 ∷ [];
-        world = answering (sending w r) r (Now (moved w.ledger r));
-        course = and_then sent (host_hears (Now (moved w.ledger r)) head_is takes);
+        world = answering (sending w r) r (Ok (moved w.ledger r));
+        course = and_then sent (host_hears (Ok (moved w.ledger r)) head_is takes);
         next = refl;
       }
 
@@ -121,8 +120,8 @@ module _ (n : ℕ) (least : 1 ≤ n) (most : n ≤ 2048) where
       go (yes z) told q (the_last {s} {older} y) =
           let j : List ℕ = w.journal in
           let b : ℕ = length (booked ds) in
-          let r : Released = released.Those (length (held_up_to j b s)) (sum_of (held_up_to j b s)) in
-          let k : List ℕ = release_bytes (Is b) j s in
+          let r : Result Released Reason = Ok (record { count = length (held_up_to j b s); sum = sum_of (held_up_to j b s) }) in
+          let k : List ℕ = release_bytes (Some b) j s in
           let t : Releases j s r k = release_can j b s three.formed (omega arith) (omega arith) in
           record {
             acts = is_answered 0 ∷ [];

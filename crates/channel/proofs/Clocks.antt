@@ -5,7 +5,6 @@ use mathlib.Core.Bool.{Bool, true, false, cond}
 use mathlib.Core.List.{List, [], ◌∷◌, ◌++◌}
 use lib.ListN.{length, replicate}
 use Rattle.slots.specs.Journal.{slots_of}
-use Rattle.slots.specs.declared.Newest.TheVariants.{Is}
 use Rattle.slots.proofs.Form.{formed_one}
 use Rattle.slots.proofs.Clocks.{clock_view}
 use Rattle.held.specs.Held.{held_list, SameRecord, SameRecords, none, more}
@@ -16,8 +15,8 @@ use Rattle.history.specs.History.{Call, release, AnswerTo, Does, Done, SameOutco
 use Rattle.history.proofs.Twins.{clocks_same, twin}
 use Rattle.ledger.specs.Ledger.{wants, Takes}
 use Rattle.ledger.specs.declared.Ledger.{Ledger}
-use Rattle.ledger.specs.declared.Taken.{Taken}
-use Rattle.ledger.specs.declared.Taken.TheVariants.{Now, Refused}
+use Rattle.reasons.specs.declared.Reason.{Reason}
+use Rattle.std.proofs.Common.{Some, Result, Ok, Err}
 use Rattle.ledger.proofs.Laws.{take_one, clock_wants, clock_take}
 use Rattle.channel.specs.Channel.{World, start, leaving, answering, made, Nth, head_is, further, Act, SameButTimes}
 use Rattle.channel.specs.Channel.{Event, box_calls, box_sends, host_hears, host_hears_noise, box_hears, Course, nothing_yet, and_then}
@@ -47,8 +46,8 @@ nth_one (further n) (further m) = nth_one n m
 
 module _ (ds es : List Done) (w x : World) (s : SameButTimes ds es w x) where
   -- the host hears one message and the other, which are the same but for a clock, and takes both so
-  hears_twin : (m q : List ℕ) (r : Taken) → length m ≡ length q → SameRecord m q → SameButTimes (ds ++ []) (es ++ []) (answering w m r) (answering x q r)
-  hears_twin m q (Now l) size same = record {
+  hears_twin : (m q : List ℕ) (r : Result Ledger Reason) → length m ≡ length q → SameRecord m q → SameButTimes (ds ++ []) (es ++ []) (answering w m r) (answering x q r)
+  hears_twin m q (Ok l) size same = record {
     outcomes = outcomes_append s.outcomes no_outcomes;
     journals = s.journals;
     ledgers = refl;
@@ -61,7 +60,7 @@ module _ (ds es : List Done) (w x : World) (s : SameButTimes ds es w x) where
       by : (b : Bool) → SameRecords (cond b (w.took ++ (m ∷ [])) w.took) (cond b (x.took ++ (q ∷ [])) x.took)
       by true = records_append s.took (more same none)
       by false = s.took
-  hears_twin m q (Refused y) size same = record {
+  hears_twin m q (Err y) size same = record {
     outcomes = outcomes_append s.outcomes no_outcomes;
     journals = s.journals;
     ledgers = s.ledgers;
@@ -71,11 +70,11 @@ module _ (ds es : List Done) (w x : World) (s : SameButTimes ds es w x) where
   }
 
   -- and it can't take them otherwise
-  heard_twin : (m q : List ℕ) (r t : Taken) → length m ≡ length q → SameRecord m q → Takes w.ledger m r → Takes x.ledger q t
+  heard_twin : (m q : List ℕ) (r t : Result Ledger Reason) → length m ≡ length q → SameRecord m q → Takes w.ledger m r → Takes x.ledger q t
       → SameButTimes (ds ++ []) (es ++ []) (answering w m r) (answering x q t)
   heard_twin m q r t size same a b =
       let e : r ≡ t = take_one x.ledger q r t (clock_take m q size same x.ledger r (subst (λ (l : Ledger). Takes l m r) s.ledgers a)) b in
-      subst (λ (u : Taken). SameButTimes (ds ++ []) (es ++ []) (answering w m r) (answering x q u)) e (hears_twin m q r size same)
+      subst (λ (u : Result Ledger Reason). SameButTimes (ds ++ []) (es ++ []) (answering w m r) (answering x q u)) e (hears_twin m q r size same)
 
   -- the box makes one call, here and there
   call_twin : (t u : ℕ) (c : Call) (a b : AnswerTo c) (j k : List ℕ) → Does w.journal t c a j → Does x.journal u c b k
@@ -91,7 +90,7 @@ module _ (ds es : List Done) (w x : World) (s : SameButTimes ds es w x) where
         answers = s.answers;
       }
 
-  release_twin : (t u y z : ℕ) (a b : Released) (j k : List ℕ) → y ≡ z → Releases w.journal y a j → Releases x.journal z b k
+  release_twin : (t u y z : ℕ) (a b : Result Released Reason) (j k : List ℕ) → y ≡ z → Releases w.journal y a j → Releases x.journal z b k
       → SameButTimes (ds ++ (made t (release y) a j ∷ [])) (es ++ (made u (release z) b k ∷ [])) (leaving w j) (leaving x k)
   release_twin t u y z a b j k e p q =
       subst (λ (i : ℕ). SameButTimes (ds ++ (made t (release y) a j ∷ [])) (es ++ (made u (release i) b k ∷ [])) (leaving w j) (leaving x k)) e
@@ -104,7 +103,7 @@ module _ (n : ℕ) (least : 1 ≤ n) (most : n ≤ 2048) where
       call_twin ds es w x s t u c a b j i p q
   event_twin {w = w} {x = x} k l s (box_sends {i = i} {r = r} b f m) (box_sends {r = q} c g o) =
       let j = w.journal in
-      let e : b ≡ c = formed_one x.journal (slots_of x.journal) b c (clock_view j x.journal s.journals (Is b) f) g in
+      let e : b ≡ c = formed_one x.journal (slots_of x.journal) b c (clock_view j x.journal s.journals (Some b) f) g in
       let o' : Nth i (held_list x.journal b) q = subst⁻¹ (λ (y : ℕ). Nth i (held_list x.journal y) q) e o in
       record {
         outcomes = outcomes_append s.outcomes no_outcomes;

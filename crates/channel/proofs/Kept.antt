@@ -11,16 +11,11 @@ use lib.Seq.{take-append-le}
 use Rattle.reasons.specs.Reasons.{Outcome, gives, refuses}
 use Rattle.slots.specs.Record.{amount_at}
 use Rattle.slots.specs.Journal.{slots_of, NewestIs}
-use Rattle.slots.specs.declared.Newest.TheVariants.{Is}
 use Rattle.slots.proofs.Form.{formed_one}
 use Rattle.held.specs.Held.{held_list}
-use Rattle.journal.specs.declared.Booked.{Booked}
-use Rattle.journal.specs.declared.Booked.TheVariants as booking
 use Rattle.journal.specs.declared.Released.{Released}
-use Rattle.journal.specs.declared.Released.TheVariants as released
 use Rattle.payer.specs.Payer.{Payer, card_rule}
-use Rattle.swipe.specs.declared.Swiped.{Swiped}
-use Rattle.swipe.specs.declared.Swiped.TheVariants as swiping
+use Rattle.swipe.specs.declared.Receipt.{Receipt}
 use Rattle.history.specs.History.{Call, book, swipe, release, reads, aside, AnswerTo, Done, Does, Run, no_more, next, Payment, record_of}
 use Rattle.history.specs.History.{effect, effect_of, serial_in, of_booking, of_swipe, of_release, booked, highest, takings, freed_count, freed_sum, Demand3}
 use Rattle.history.proofs.Account.{Account, account, map-append}
@@ -29,8 +24,8 @@ use Rattle.history.proofs.Laws.{demand_3}
 use Rattle.history.proofs.Runs.{run_append, booked-append, highest-append}
 use Rattle.ledger.specs.Ledger.{HeldRecord, sound, wants, Takes}
 use Rattle.ledger.specs.declared.Ledger.{Ledger}
-use Rattle.ledger.specs.declared.Taken.{Taken}
-use Rattle.ledger.specs.declared.Taken.TheVariants.{Now, Refused}
+use Rattle.reasons.specs.declared.Reason.{Reason}
+use Rattle.std.proofs.Common.{Some, Result, Ok, Err}
 use Rattle.ledger.proofs.Laws.{Did, took, left_alone, heard, not_held_refused, opened-sound, stays_sound}
 use Rattle.channel.specs.Channel.{World, start, leaving, sending, answering, Act, Own, made}
 use Rattle.channel.specs.Channel.{Event, box_calls, box_sends, host_hears, host_hears_noise, box_hears, Course, nothing_yet, and_then}
@@ -61,23 +56,23 @@ pub record Kept (j : List ℕ) (ds : List Done) (w : World) : Type 0 where
 own_serial : (clock : ℕ) (c : Call) (a : AnswerTo c) → Own c → serial_in (effect clock c a) ≡ 0
 own_serial clock (book pan label amount) a o = by a
   where
-    by : (r : Booked) → serial_in (of_booking r clock amount label pan) ≡ 0
-    by (booking.Serial s) = refl
-    by (booking.Refused x) = refl
+    by : (r : Result ℕ Reason) → serial_in (of_booking r clock amount label pan) ≡ 0
+    by (Ok s) = refl
+    by (Err x) = refl
 own_serial clock (swipe card amount scratch) a o = by a.says (card_rule card)
   where
-    by : (r : Swiped) (p : Outcome Payer) → serial_in (of_swipe r p clock amount) ≡ 0
-    by (swiping.Booked s d) (gives p) = refl
-    by (swiping.Booked s d) (refuses x) = refl
-    by (swiping.Refused x) (gives p) = refl
-    by (swiping.Refused x) (refuses y) = refl
+    by : (r : Result Receipt Reason) (p : Outcome Payer) → serial_in (of_swipe r p clock amount) ≡ 0
+    by (Ok y) (gives p) = refl
+    by (Ok y) (refuses x) = refl
+    by (Err x) (gives p) = refl
+    by (Err x) (refuses z) = refl
 own_serial clock (release s) a o = absurd o
 own_serial clock (reads q) a o = refl
 own_serial clock aside a o = refl
 
-release_serial : (r : Released) (s : ℕ) → serial_in (of_release r s) ≤ s
-release_serial (released.Those c y) s = omega arith
-release_serial (released.Refused x) s = omega arith
+release_serial : (r : Result Released Reason) (s : ℕ) → serial_in (of_release r s) ≤ s
+release_serial (Ok y) s = omega arith
+release_serial (Err x) s = omega arith
 
 pub one_highest : (d : Done) → highest (d ∷ []) ≡ serial_in (effect_of d)
 unfolding highest
@@ -110,7 +105,7 @@ call_kept j ds w d k does h =
 
 module _ (j : List ℕ) (ds : List Done) (w : World) (k : Kept j ds w) where
   -- the host took a message so
-  hears_kept : (message : List ℕ) (l : Ledger) → Among message w.records → Takes w.ledger message (Now l) → Kept j ds (answering w message (Now l))
+  hears_kept : (message : List ℕ) (l : Ledger) → Among message w.records → Takes w.ledger message (Ok l) → Kept j ds (answering w message (Ok l))
   hears_kept message l a t = go (heard w.ledger message l t).did
     where
       s : Sent (booked ds) message
@@ -118,7 +113,7 @@ module _ (j : List ℕ) (ds : List Done) (w : World) (k : Kept j ds w) where
 
       -- what the ledger has come to
       so : w.ledger.taken ≤ l.taken → l.taken ≤ length (booked ds) → l.total ≡ takings (take l.taken (booked ds))
-          → (answering w message (Now l)).took ≡ map record_of (take l.taken (booked ds)) → Kept j ds (answering w message (Now l))
+          → (answering w message (Ok l)).took ≡ map record_of (take l.taken (booked ds)) → Kept j ds (answering w message (Ok l))
       so up reach total as_booked = record {
         run = k.run;
         sent = k.sent;
@@ -132,10 +127,10 @@ module _ (j : List ℕ) (ds : List Done) (w : World) (k : Kept j ds w) where
       }
 
       -- the records that it took, where it wants the message or not
-      took_so : (b : Bool) → wants w.ledger message ≡ b → (answering w message (Now l)).took ≡ cond b (w.took ++ (message ∷ [])) w.took
+      took_so : (b : Bool) → wants w.ledger message ≡ b → (answering w message (Ok l)).took ≡ cond b (w.took ++ (message ∷ [])) w.took
       took_so b e = ap (λ (x : Bool). cond x (w.took ++ (message ∷ [])) w.took) e
 
-      go : Did w.ledger message l → Kept j ds (answering w message (Now l))
+      go : Did w.ledger message l → Kept j ds (answering w message (Ok l))
       go (left_alone q e) =
           let x : l.taken ≡ w.ledger.taken = ap (λ (m : Ledger). m.taken) e in
           let y : l.total ≡ w.ledger.total = ap (λ (m : Ledger). m.total) e in
@@ -158,18 +153,18 @@ module _ (j : List ℕ) (ds : List Done) (w : World) (k : Kept j ds w) where
           ∙ ap (map record_of) (sym grown))
 
   -- a refusal changes nothing
-  taken_kept : (message : List ℕ) (r : Taken) → Among message w.records → Takes w.ledger message r → Kept j ds (answering w message r)
-  taken_kept message (Now l) a t = hears_kept message l a t
-  taken_kept message (Refused x) a t = k
+  taken_kept : (message : List ℕ) (r : Result Ledger Reason) → Among message w.records → Takes w.ledger message r → Kept j ds (answering w message r)
+  taken_kept message (Ok l) a t = hears_kept message l a t
+  taken_kept message (Err x) a t = k
 
-  noise_kept : (message : List ℕ) (r : Taken) → (HeldRecord message → ⊥) → Takes w.ledger message r → Kept j ds (answering w message r)
-  noise_kept message r h t = subst⁻¹ (λ (q : Taken). Kept j ds (answering w message q)) (not_held_refused w.ledger message r h t) k
+  noise_kept : (message : List ℕ) (r : Result Ledger Reason) → (HeldRecord message → ⊥) → Takes w.ledger message r → Kept j ds (answering w message r)
+  noise_kept message r h t = subst⁻¹ (λ (q : Result Ledger Reason). Kept j ds (answering w message q)) (not_held_refused w.ledger message r h t) k
 
 -- ---- any course of events, from an empty journal of n slots and a fresh ledger
 
 module _ (n : ℕ) (least : 1 ≤ n) (most : n ≤ 2048) where
   -- a record is sent
-  sends_kept : (ds : List Done) (w : World) (b : ℕ) (r : List ℕ) → Kept (replicate (32 * n) 0) ds w → NewestIs w.journal (Is b)
+  sends_kept : (ds : List Done) (w : World) (b : ℕ) (r : List ℕ) → Kept (replicate (32 * n) 0) ds w → NewestIs w.journal (Some b)
       → Among r (held_list w.journal b) → Kept (replicate (32 * n) 0) ds (sending w r)
   sends_kept ds w b r k f a =
       let d : Demand3 ds w.journal = demand_3 n least most ds w.journal k.run in

@@ -10,8 +10,8 @@ use lib.ListN.{length, get_or, take, drop, replicate, drop_of_length-le}
 use lib.Seq.{split_at, drop-append-le, length-take-le, take_all}
 use borrow.Author.Tests.{le-ltb}
 use Rattle.text.proofs.Tests.{under, inside}
-use Rattle.reasons.specs.Reasons.{gives, number_of}
-use Rattle.reasons.proofs.Laws.{gives_refuses}
+use Rattle.reasons.specs.Reasons.{gives, number_of, said}
+use Rattle.reasons.proofs.Laws.{gives_refuses, said_one}
 use Rattle.reasons.specs.declared.Reason.TheVariants.{NoSerial}
 use Rattle.slots.specs.Record.{is_held}
 use Rattle.slots.specs.Journal.{slots_of, place, state_of, Formed}
@@ -19,14 +19,12 @@ use Rattle.slots.proofs.Views.{known}
 use Rattle.slots.proofs.Records.{serial_of_lem}
 use Rattle.held.specs.Held.{low_of, held_up_to, held_list, serial_of, sum_of}
 use Rattle.held.specs.Rules.{held_in}
-use Rattle.journal.specs.Rules.{Releases, said_released, freed_after}
+use Rattle.journal.specs.Rules.{Releases, freed_after}
 use Rattle.journal.specs.declared.Released.{Released}
-use Rattle.journal.specs.declared.Released.TheVariants as released
 use Rattle.journal.proofs.Rule.{release_none, release_done}
 use Rattle.journal.proofs.Radio.{freed_bytes}
 use Rattle.held.proofs.Lists.{held_none}
 use Rattle.journal.proofs.Walks.{freed_not}
-use Rattle.journal.proofs.Laws.{released_one}
 use Rattle.journal.proofs.Calls.{release_refused}
 use Rattle.history.specs.History.{Done, release, Payment, record_of, booked_in, serial_in, of_release, booked, highest, takings, freed_count, freed_sum, Demand3}
 use Rattle.history.proofs.Account.{Account, account, map-append}
@@ -34,8 +32,9 @@ use Rattle.history.proofs.Demand.{zeros_open}
 use Rattle.history.proofs.Laws.{demand_3}
 use Rattle.history.proofs.Runs.{booked-append, highest-append}
 use Rattle.ledger.specs.Ledger.{wants, moved, Takes}
-use Rattle.ledger.specs.declared.Taken.{Taken}
-use Rattle.ledger.specs.declared.Taken.TheVariants.{Now}
+use Rattle.reasons.specs.declared.Reason.{Reason}
+use Rattle.std.proofs.Common.{Result, Ok, Err}
+use Rattle.ledger.specs.declared.Ledger.{Ledger}
 use Rattle.ledger.proofs.Laws.{held_taken}
 use Rattle.channel.specs.Channel.{World, start, leaving, Nth, head_is, Act, made, Course, and_then, box_hears, counted, Agree, AllTaken}
 use Rattle.channel.proofs.Lists.{Serials, serial_at_lem, below_is, among_more}
@@ -43,18 +42,18 @@ use Rattle.channel.proofs.Kept.{LastAnswer, the_last, Kept, course_kept, one_hig
 
 -- ---- releases by an answer
 
-module _ (j : List ℕ) (b s : ℕ) (r : Released) (k : List ℕ) (f : Formed j (slots_of j) b) (w : Releases j s r k) where
-  none_there : s ≡ 0 → r ≡ released.Refused NoSerial
-  none_there e = released_one r (released.Refused NoSerial) ((known j b f w).0 ∙ sym (release_none j b s (under 1 b s (omega arith))))
+module _ (j : List ℕ) (b s : ℕ) (r : Result Released Reason) (k : List ℕ) (f : Formed j (slots_of j) b) (w : Releases j s r k) where
+  none_there : s ≡ 0 → r ≡ Err NoSerial
+  none_there e = said_one r (Err NoSerial) ((known j b f w).0 ∙ sym (release_none j b s (under 1 b s (omega arith))))
 
   -- one up to a booked serial is refused only where that is 0
   reaches : s ≤ b → s ≤ serial_in (of_release r s)
   reaches h = go r refl (dec_lt 0 s)
     where
-      go : (q : Released) → r ≡ q → Dec (0 < s) → s ≤ serial_in (of_release q s)
-      go (released.Those c y) e d = omega arith
-      go (released.Refused x) e (no z) = omega arith
-      go (released.Refused x) e (yes z) = gives_refuses _ (number_of x) (release_done j b s z h ∙ sym (known j b f w).0 ∙ ap said_released e)
+      go : (q : Result Released Reason) → r ≡ q → Dec (0 < s) → s ≤ serial_in (of_release q s)
+      go (Ok y) e d = omega arith
+      go (Err x) e (no z) = omega arith
+      go (Err x) e (yes z) = gives_refuses _ (number_of x) (release_done j b s z h ∙ sym (known j b f w).0 ∙ ap said e)
 
 -- a kept serial that isn't among the held ones has another state
 not_held : (j : List ℕ) (b s : ℕ) → low_of j b < s → s ≤ b → held_in j b s ≡ false → is_held (state_of j (slots_of j) s) ≡ false
@@ -119,19 +118,19 @@ module _ (n : ℕ) (least : 1 ≤ n) (most : n ≤ 2048) (acts : List Act) (ds :
       )
 
   -- a record that the box sent is never refused
-  pub sent_never_refused : (message : List ℕ) (r : Taken) → Among message w.records → Takes w.ledger message r
-      → r ≡ Now (cond (wants w.ledger message) (moved w.ledger message) w.ledger)
+  pub sent_never_refused : (message : List ℕ) (r : Result Ledger Reason) → Among message w.records → Takes w.ledger message r
+      → r ≡ Ok (cond (wants w.ledger message) (moved w.ledger message) w.ledger)
   sent_never_refused message r a t = held_taken w.ledger message r (kept.sent message a).held kept.fine t
 
   -- "An answer of 0 meets reason 20 at the box and does no harm"
-  pub zero_does_no_harm : (r : Released) (after : List ℕ) → Releases w.journal 0 r after → (r ≡ released.Refused NoSerial) × (after ≡ w.journal)
+  pub zero_does_no_harm : (r : Result Released Reason) (after : List ℕ) → Releases w.journal 0 r after → (r ≡ Err NoSerial) × (after ≡ w.journal)
   zero_does_no_harm r after t =
-      let e : r ≡ released.Refused NoSerial = none_there w.journal (length (booked ds)) 0 r after three.formed t refl in
-      (e, release_refused w.journal 0 NoSerial after (subst (λ (q : Released). Releases w.journal 0 q after) e t))
+      let e : r ≡ Err NoSerial = none_there w.journal (length (booked ds)) 0 r after three.formed t refl in
+      (e, release_refused w.journal 0 NoSerial after (subst (λ (q : Result Released Reason). Releases w.journal 0 q after) e t))
 
   -- old answers do no harm: one up to a serial that was released before releases nothing, and no byte changes
-  pub old_does_no_harm : (s : ℕ) → 1 ≤ s → s ≤ highest ds → (r : Released) (after : List ℕ) → Releases w.journal s r after
-      → (r ≡ released.Those 0 0) × (after ≡ w.journal)
+  pub old_does_no_harm : (s : ℕ) → 1 ≤ s → s ≤ highest ds → (r : Result Released Reason) (after : List ℕ) → Releases w.journal s r after
+      → (r ≡ Ok (record { count = 0; sum = 0 })) × (after ≡ w.journal)
   unfolding sum_of
   old_does_no_harm s l h r after t =
       let j : List ℕ = w.journal in
@@ -141,7 +140,7 @@ module _ (n : ℕ) (least : 1 ≤ n) (most : n ≤ 2048) (acts : List Act) (ds :
       λ u x y. not_held j b u x (omega arith) (three.either u (inside 1 b u (omega arith) (omega arith)) ∙ le-ltb (highest ds) u (omega arith)) in
       let none : held_up_to j b s ≡ [] = held_none j (slots_of j) (low_of j b) (s - low_of j b) gone in
       let says = known j b three.formed t in (
-        released_one r (released.Those 0 0)
+        said_one r (Ok (record { count = 0; sum = 0 }))
             (says.0 ∙ sym (release_done j b s l in_range) ∙ (λ i. gives (record { count = length (none i); sum = sum_of (none i) }))),
         says.1 ∙ freed_bytes j b s l in_range ∙ freed_gone j (slots_of j) (low_of j b) (s - low_of j b) gone,
       )
@@ -155,7 +154,7 @@ module _ (n : ℕ) (least : 1 ≤ n) (most : n ≤ 2048) (acts : List Act) (ds :
       go (no h) = omega (arith, kept.reach)
 
   -- the host's last answer s arrives at the box
-  module _ (s : ℕ) (older : List ℕ) (is_last : w.answers ≡ s ∷ older) (clock : ℕ) (r : Released) (after : List ℕ) (t : Releases w.journal s r after) where
+  module _ (s : ℕ) (older : List ℕ) (is_last : w.answers ≡ s ∷ older) (clock : ℕ) (r : Result Released Reason) (after : List ℕ) (t : Releases w.journal s r after) where
     -- the calls with the release by it
     abbrev pub es : List Done
     es = ds ++ (made clock (release s) r after ∷ [])
@@ -176,9 +175,9 @@ module _ (n : ℕ) (least : 1 ≤ n) (most : n ≤ 2048) (acts : List Act) (ds :
     unfolding booked
     same_booked = booked-append ds (made clock (release s) r after ∷ []) ∙ ap (λ (l : List Payment). booked ds ++ (l ++ [])) (none r) ∙ append-nil (booked ds)
       where
-        none : (q : Released) → booked_in (of_release q s) ≡ []
-        none (released.Those count sum) = refl
-        none (released.Refused x) = refl
+        none : (q : Result Released Reason) → booked_in (of_release q s) ≡ []
+        none (Ok y) = refl
+        none (Err x) = refl
 
     -- "If its last answer arrives while the host has taken every held record, the box's released total equals the host's total":
     -- so it does whether the host has taken every one or not,

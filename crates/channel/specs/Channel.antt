@@ -1,10 +1,9 @@
 -- The box and the host. "Messages either way may be lost, repeated or come out of order, but aren't altered": what was sent once may arrive any number
 -- of times, at any later time, in any order, or never. What holds whatever the channel does is `Agree`; proofs/Laws.antt has the theorem `agree` with
 -- what the last answer, an old one and one of 0 do, proofs/Clocks.antt that clocks decide nothing, proofs/CatchUp.antt that all can be brought in.
-use Rattle.std.specs.Prelude.{ℕ, zero, suc, ◌+◌, ◌*◌, ◌≤◌, ◌≡◌, cond, ltb, length, replicate}
+use Rattle.std.specs.Prelude.{ℕ, zero, suc, ◌+◌, ◌*◌, ◌≤◌, ◌≡◌, cond, ltb, length, replicate, Some, Result, Ok, Err}
 use mathlib.Core.List.{List, [], ◌∷◌, ◌++◌, map, Memᴰ as Among}
 use Rattle.slots.specs.Journal.{NewestIs, SameButClocks}
-use Rattle.slots.specs.declared.Newest.TheVariants.{Is}
 use Rattle.held.specs.Held.{held_list, serial_of, SameRecords}
 use Rattle.journal.specs.Rules.{Releases}
 use Rattle.journal.specs.declared.Released.{Released}
@@ -12,8 +11,7 @@ use Rattle.history.specs.History.{Call, book, swipe, release, reads, aside, Answ
 use Rattle.history.specs.History.{Payment, record_of, booked, released, highest, takings, freed_sum}
 use Rattle.ledger.specs.Ledger.{HeldRecord, opened, wants, Takes}
 use Rattle.ledger.specs.declared.Ledger.{Ledger}
-use Rattle.ledger.specs.declared.Taken.{Taken}
-use Rattle.ledger.specs.declared.Taken.TheVariants.{Now, Refused}
+use Rattle.reasons.specs.declared.Reason.{Reason}
 
 -- ---- box and host
 
@@ -39,15 +37,15 @@ abbrev pub sending : World → List ℕ → World
 sending w r = record { journal = w.journal; ledger = w.ledger; took = w.took; records = r ∷ w.records; answers = w.answers }
 
 -- after the host heard a message so: "After each message not refused it answers with the last serial taken, 0 if none"
-abbrev pub answering : World → List ℕ → Taken → World
-answering w message (Now l) = record {
+abbrev pub answering : World → List ℕ → Result Ledger Reason → World
+answering w message (Ok l) = record {
   journal = w.journal;
   ledger = l;
   took = cond (wants w.ledger message) (w.took ++ (message ∷ [])) w.took;
   records = w.records;
   answers = l.taken ∷ w.answers;
 }
-answering w message (Refused x) = w
+answering w message (Err x) = w
 
 -- ---- what may happen
 
@@ -83,15 +81,15 @@ pub data Event (w : World) : Act → List Done → World → Type 0 where
   box_calls : {c : Call} {k : List ℕ} (clock : ℕ) (a : AnswerTo c) → Own c → Does w.journal clock c a k
       → Event w (calls c) (made clock c a k ∷ []) (leaving w k)
   -- it sends any record that is held, by its place among them
-  box_sends : {i : ℕ} {r : List ℕ} (b : ℕ) → NewestIs w.journal (Is b) → Nth i (held_list w.journal b) r → Event w (sends i) [] (sending w r)
+  box_sends : {i : ℕ} {r : List ℕ} (b : ℕ) → NewestIs w.journal (Some b) → Nth i (held_list w.journal b) r → Event w (sends i) [] (sending w r)
   -- a record that was sent arrives at the host
-  host_hears : {i : ℕ} {message : List ℕ} (r : Taken) → Nth i w.records message → Takes w.ledger message r
+  host_hears : {i : ℕ} {message : List ℕ} (r : Result Ledger Reason) → Nth i w.records message → Takes w.ledger message r
       → Event w (hears i) [] (answering w message r)
   -- any other message, that isn't a held record
-  host_hears_noise : {message : List ℕ} (r : Taken) → (HeldRecord message → ⊥) → Takes w.ledger message r
+  host_hears_noise : {message : List ℕ} (r : Result Ledger Reason) → (HeldRecord message → ⊥) → Takes w.ledger message r
       → Event w (hears_noise message) [] (answering w message r)
   -- an answer that was sent arrives at the box, which releases by it
-  box_hears : {i s : ℕ} {k : List ℕ} (clock : ℕ) (r : Released) → Nth i w.answers s → Releases w.journal s r k
+  box_hears : {i s : ℕ} {k : List ℕ} (clock : ℕ) (r : Result Released Reason) → Nth i w.answers s → Releases w.journal s r k
       → Event w (is_answered i) (made clock (release s) r k ∷ []) (leaving w k)
 
 -- one act after another from the world v to the world w: the acts, the last one first, and the calls that the box made at them, in order

@@ -12,7 +12,6 @@ use lib.Bits.{bit_xor}
 use lib.Pow.{pow_mono}
 use borrow.Author.Tests.{eq-eqb, ne_eqb}
 use Rattle.reasons.specs.Reasons.{gives, refuses}
-use Rattle.stream.specs.Stream.{stream}
 use Rattle.chars.specs.Reading.{Letters, next, finish, body}
 
 module _ (l : Letters) (x : ℕ) (out : List ℕ) (m : ℕ) (p : List Bool) where
@@ -38,24 +37,24 @@ module _ (l : Letters) (x : ℕ) (out : List ℕ) (m : ℕ) (p : List Bool) wher
       unfolding body
       body_more o = ap (λ (k : ℕ). body l k x out p) one_more ∙ rw (← e, ne_eqb n l.end_number o)
 
-module _ (l : Letters) (v : Bool) (s : List ℕ) (c p more len x n : ℕ) (out : List ℕ) (h : len < more)
-    (e : gives n ≡ next l.data_bits (drop p (stream v s c))) where
+module _ (l : Letters) (s : List Bool) (p more len x n : ℕ) (out : List ℕ) (h : len < more)
+    (e : gives n ≡ next l.data_bits (drop p s)) where
   past : p + suc l.data_bits ≡ p + l.data_bits + 1
   past = omega arith
 
   -- the end sentinel, and the close behind it
   pub ends : n ≡ l.end_number
-      → finish l.data_bits (bit_xor x n) (take len out) (drop (p + l.data_bits + 1) (stream v s c))
-      ≡ body l (more - len) x (take len out) (drop p (stream v s c))
-  ends o = sym (rw (drop-drop, past)) ∙ body_end l x (take len out) (more - len) (drop p (stream v s c)) (omega arith) n e o
+      → finish l.data_bits (bit_xor x n) (take len out) (drop (p + l.data_bits + 1) s)
+      ≡ body l (more - len) x (take len out) (drop p s)
+  ends o = sym (rw (drop-drop, past)) ∙ body_end l x (take len out) (more - len) (drop p s) (omega arith) n e o
 
   -- another character: the bytes with one more
   pub turn : len < length out → (n ≡ l.end_number → ⊥)
-      → body l (more - len) x (take len out) (drop p (stream v s c))
-      ≡ body l (more - (len + 1)) (bit_xor x n) (take (len + 1) (set out len (l.base + n))) (drop (p + l.data_bits + 1) (stream v s c))
+      → body l (more - len) x (take len out) (drop p s)
+      ≡ body l (more - (len + 1)) (bit_xor x n) (take (len + 1) (set out len (l.base + n))) (drop (p + l.data_bits + 1) s)
   turn b o =
       let q : more - len - 1 ≡ more - (len + 1) = omega arith in
-      body_more l x (take len out) (more - len) (drop p (stream v s c)) (omega arith) n e o
+      body_more l x (take len out) (more - len) (drop p s) (omega arith) n e o
       ∙ rw (q, drop-drop, past, add-one len, take-suc-set out len (l.base + n) b)
 
 -- a character's byte is one

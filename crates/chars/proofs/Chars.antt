@@ -15,7 +15,9 @@ use lib.Count.{ones_step}
 use borrow.Author.Tests.{lt-leb, le-leb, leb-true, ne_eqb, eq-eqb}
 use Rattle.reasons.specs.Reasons.{gives, refuses, demand}
 use Rattle.reasons.proofs.Laws.{passed}
-use Rattle.stream.specs.Stream.{bit_n, stream, number, ones, odd, odd_ones}
+use Rattle.stream.specs.Stream.{bit_n, number, ones, odd, odd_ones}
+use Rattle.stream.specs.Bits.{all_bits}
+use Rattle.stream.specs.declared.Stream.{Stream}
 use Rattle.chars.specs.Reading.{next, all_zero, finish}
 use Rattle.stream.proofs.Streams.{part, length-stream}
 use Rattle.stream.proofs.Numbers.{lowest, above, number_lt, number-take}
@@ -38,17 +40,17 @@ char_is d l w t h e o =
     ap number (sym (take-take d (suc d) l (omega arith))) ∙ number-take d (take (suc d) l) ∙ ap (λ (m : ℕ). m % 2 ^ d) e in
     rw (le-leb (suc d) (length l) h, p, n)
 
-module _ (v : Bool) (s : List ℕ) (c p d : ℕ) (at_most : p ≤ c) where
-  left : length (drop p (stream v s c)) ≡ c - p
+module _ (s : Stream) (p d : ℕ) (at_most : p ≤ s.count) where
+  left : length (drop p (all_bits s)) ≡ s.count - p
   left = rw (length-drop, length-stream)
 
-  pub next_cut : c - p ≤ d → refuses 9 ≡ next d (drop p (stream v s c))
+  pub next_cut : s.count - p ≤ d → refuses 9 ≡ next d (drop p (all_bits s))
   unfolding next
-  next_cut h = rw (lt-leb (suc d) (length (drop p (stream v s c))) (rw left (omega arith)))
+  next_cut h = rw (lt-leb (suc d) (length (drop p (all_bits s))) (rw left (omega arith)))
 
-  pub next_is : d < c - p → (w : ℕ) (t : Bool) → w ≡ number (part (stream v s c) p (d + 1)) → odd_ones w ≡ t
-      → demand t 10 (gives (w % 2 ^ d)) ≡ next d (drop p (stream v s c))
-  next_is h w t e o = char_is d (drop p (stream v s c)) w t (rw left h) (sym (rw add-one at e)) o
+  pub next_is : d < s.count - p → (w : ℕ) (t : Bool) → w ≡ number (part (all_bits s) p (d + 1)) → odd_ones w ≡ t
+      → demand t 10 (gives (w % 2 ^ d)) ≡ next d (drop p (all_bits s))
+  next_is h w t e o = char_is d (drop p (all_bits s)) w t (rw left h) (sym (rw add-one at e)) o
 
 -- a character that is there has all its bits, an odd count of ones among them, and a small number
 module _ (d : ℕ) (s : List Bool) (n : ℕ) (found : next d s ≡ gives n) where
@@ -71,9 +73,9 @@ module _ (d : ℕ) (s : List Bool) (n : ℕ) (found : next d s ≡ gives n) wher
       lt_of_lt_of_le (subst (λ (m : ℕ). m < 2 ^ length (take d s)) char_number (number_lt (take d s))) (pow_mono q)
 
 -- so that its bits end within the stream
-pub char_fits : (v : Bool) (s : List ℕ) (c p d n : ℕ) → p ≤ c → next d (drop p (stream v s c)) ≡ gives n → p + d + 1 ≤ c
-char_fits v s c p d n h e =
-    let q : suc d ≤ length (drop p (stream v s c)) = char_long d (drop p (stream v s c)) n e in
+pub char_fits : (s : Stream) (p d n : ℕ) → p ≤ s.count → next d (drop p (all_bits s)) ≡ gives n → p + d + 1 ≤ s.count
+char_fits s p d n h e =
+    let q : suc d ≤ length (drop p (all_bits s)) = char_long d (drop p (all_bits s)) n e in
     omega (arith, rw (length-drop, length-stream) at q)
 
 -- the close: its outcome, by what stands behind the end sentinel

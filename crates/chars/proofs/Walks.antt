@@ -11,9 +11,11 @@ use lib.Dec.{eqb}
 use lib.ListN.{length, drop, drop_of_length-le, length-drop, take-append-drop}
 use lib.Seq.{drop-drop}
 use borrow.Author.Tests.{eq-eqb, ne_eqb}
-use Rattle.stream.specs.Stream.{stream, number}
+use Rattle.stream.specs.Stream.{number}
 use Rattle.stream.proofs.Streams.{length-stream, part, length_part, stream-fits}
 use Rattle.stream.proofs.Numbers.{lowest, above}
+use Rattle.stream.specs.Bits.{all_bits}
+use Rattle.stream.specs.declared.Stream.{Stream}
 use Rattle.chars.specs.Reading.{skip, all_zero}
 
 -- bits whose number is 0 are zeros
@@ -39,25 +41,25 @@ first_in (true ∷ l) rest (suc k) h o =
     ap (λ (x : ℕ). under x (count_trailing_zeros k ((1 + 2 * number l) / 2))) (lowest true l) in
     rw t (refl, omega arith)
 
-module _ (v : Bool) (s : List ℕ) (c p : ℕ) where
-  pub skip_end : c ≤ p → skip (drop p (stream v s c)) ≡ drop p (stream v s c)
+module _ (s : Stream) (p : ℕ) where
+  pub skip_end : s.count ≤ p → skip (drop p (all_bits s)) ≡ drop p (all_bits s)
   unfolding skip
-  skip_end h = rw (drop_of_length-le (stream v s c) {i = p} (rw length-stream h))
+  skip_end h = rw (drop_of_length-le (all_bits s) {i = p} (rw length-stream h))
 
-  module _ (n w : ℕ) (fits : p + n ≤ c) (is : w ≡ number (part (stream v s c) p n)) where
-    split : drop p (stream v s c) ≡ part (stream v s c) p n ++ drop (p + n) (stream v s c)
-    split = sym (ap (λ (l : List Bool). part (stream v s c) p n ++ l) (sym (drop-drop n p (stream v s c))) ∙ take-append-drop n (drop p (stream v s c)))
+  module _ (n w : ℕ) (fits : p + n ≤ s.count) (is : w ≡ number (part (all_bits s) p n)) where
+    split : drop p (all_bits s) ≡ part (all_bits s) p n ++ drop (p + n) (all_bits s)
+    split = sym (ap (λ (l : List Bool). part (all_bits s) p n ++ l) (sym (drop-drop n p (all_bits s))) ∙ take-append-drop n (drop p (all_bits s)))
 
-    pub skip_past : w ≡ 0 → skip (drop p (stream v s c)) ≡ skip (drop (p + n) (stream v s c))
-    skip_past e = ap skip split ∙ skips (part (stream v s c) p n) (drop (p + n) (stream v s c)) (sym is ∙ e)
+    pub skip_past : w ≡ 0 → skip (drop p (all_bits s)) ≡ skip (drop (p + n) (all_bits s))
+    skip_past e = ap skip split ∙ skips (part (all_bits s) p n) (drop (p + n) (all_bits s)) (sym is ∙ e)
 
     pub skip_to : n ≤ 8 → (w ≡ 0 → ⊥)
-        → (skip (drop p (stream v s c)) ≡ drop (p + count_trailing_zeros 8 w) (stream v s c)) × (p + count_trailing_zeros 8 w ≤ c)
+        → (skip (drop p (all_bits s)) ≡ drop (p + count_trailing_zeros 8 w) (all_bits s)) × (p + count_trailing_zeros 8 w ≤ s.count)
     skip_to h o =
-        let l = length_part (stream v s c) p n (stream-fits v s c p n fits) in
-        let t = first_in (part (stream v s c) p n) (drop (p + n) (stream v s c)) 8 (rw l h) (λ e. o (is ∙ e)) in
-        let z : count_trailing_zeros 8 w ≡ count_trailing_zeros 8 (number (part (stream v s c) p n)) = ap (count_trailing_zeros 8) is in (
-          ap skip split ∙ t.0 ∙ ap₂ (λ (j : ℕ) (m : List Bool). drop j m) (sym z) (sym split) ∙ drop-drop (count_trailing_zeros 8 w) p (stream v s c),
+        let l = length_part (all_bits s) p n (stream-fits s.reversed s.bytes.now s.count p n fits) in
+        let t = first_in (part (all_bits s) p n) (drop (p + n) (all_bits s)) 8 (rw l h) (λ e. o (is ∙ e)) in
+        let z : count_trailing_zeros 8 w ≡ count_trailing_zeros 8 (number (part (all_bits s) p n)) = ap (count_trailing_zeros 8) is in (
+          ap skip split ∙ t.0 ∙ ap₂ (λ (j : ℕ) (m : List Bool). drop j m) (sym z) (sym split) ∙ drop-drop (count_trailing_zeros 8 w) p (all_bits s),
           omega (arith, rw l at t.1),
         )
 
@@ -76,8 +78,8 @@ none_left n r h = by (dec_lt r n)
     by (no l) = eq-eqb r n (omega arith) ∙ sym (eq-eqb (n - r) 0 (omega arith))
 
 -- the first one bit is behind the last bit exactly where all are zero
-pub zeros_told : (v : Bool) (s : List ℕ) (n p r : ℕ) → skip (drop p (stream v s n)) ≡ drop r (stream v s n) → r ≤ n
-    → eqb r n ≡ all_zero (drop p (stream v s n))
-zeros_told v s n p r e h =
-    let l : length (skip (drop p (stream v s n))) ≡ n - r = rw (e, length-drop, length-stream) in
-    none_left n r h ∙ sym (ap (λ (m : ℕ). eqb m 0) l) ∙ skips_all (drop p (stream v s n))
+pub zeros_told : (s : Stream) (p r : ℕ) → skip (drop p (all_bits s)) ≡ drop r (all_bits s) → r ≤ s.count
+    → eqb r s.count ≡ all_zero (drop p (all_bits s))
+zeros_told s p r e h =
+    let l : length (skip (drop p (all_bits s))) ≡ s.count - r = rw (e, length-drop, length-stream) in
+    none_left s.count r h ∙ sym (ap (λ (m : ℕ). eqb m 0) l) ∙ skips_all (drop p (all_bits s))

@@ -1,13 +1,10 @@
 -- What the functions take and answer, in the terms of the reading.
-use Rattle.std.specs.Prelude.{◌≡◌, Bool, true, List, [], ◌∷◌, ℕ, ◌-◌, ◌^◌, ◌≤◌, ◌<◌, take}
+use Rattle.std.specs.Prelude.{◌≡◌, Bool, true, List, [], ◌∷◌, ℕ, ◌-◌, ◌^◌, ◌≤◌, ◌<◌, take, Result, Ok, Err}
+use Rattle.reasons.specs.declared.Reason.{Reason}
 use Rattle.reasons.specs.Reasons.{number_of, Outcome, gives, refuses}
 use Rattle.stream.specs.Stream.{number, bits_of}
 use Rattle.chars.specs.Reading.{Letters, Format, body}
-use Rattle.chars.specs.declared.Shape.{Shape}
-use Rattle.chars.specs.declared.Char.{Char}
-use Rattle.chars.specs.declared.Char.TheVariants.{Number, Refused as Unread}
-use Rattle.chars.specs.declared.Found.{Found}
-use Rattle.chars.specs.declared.Found.TheVariants.{Chars, Refused as Unfound}
+use Rattle.chars.specs.declared.shape.Shape.{Shape}
 
 -- the format that a shape stands for
 abbrev pub letters_of : ℕ → ℕ → ℕ → Letters
@@ -16,7 +13,7 @@ letters_of size last base = record { data_bits = size; end_number = last; base =
 abbrev pub format_of : Shape → Format
 format_of h = record { letters = letters_of h.size h.last h.base; start = true ∷ bits_of h.size h.start; limit = h.limit }
 
--- a shape that the functions take
+-- what is known of every shape
 pub record Sound (h : Shape) : Type 0 where
   pub any : 1 ≤ h.size
   pub few : h.size ≤ 6
@@ -27,19 +24,15 @@ pub record Sound (h : Shape) : Type 0 where
   pub four : h.pairs ≡ true → h.size ≡ 4
   pub first_is : number (take h.size (true ∷ bits_of h.size h.start)) ≡ h.first
 
--- what next_char and read_rest say, the latter with the bytes that it wrote
-abbrev pub said_char : Char → Outcome ℕ
-said_char (Number n) = gives n
-said_char (Unread r) = refuses (number_of r)
-
-abbrev pub found : Found → List ℕ → Outcome (List ℕ)
-found (Chars n) out = gives (take n out)
-found (Unfound r) out = refuses (number_of r)
+-- what a reading says, with the bytes that it wrote
+abbrev pub found : Result ℕ Reason → List ℕ → Outcome (List ℕ)
+found (Ok n) out = gives (take n out)
+found (Err r) out = refuses (number_of r)
 
 -- how many characters were found
-abbrev pub found_count : Found → ℕ
-found_count (Chars n) = n
-found_count (Unfound r) = 0
+abbrev pub found_count : Result ℕ Reason → ℕ
+found_count (Ok n) = n
+found_count (Err r) = 0
 
 -- the characters behind the start sentinel, and what is left of them behind so many, with their exclusive or
 abbrev pub body_of : Shape → List Bool → Outcome (List ℕ)

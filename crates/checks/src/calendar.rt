@@ -1,6 +1,5 @@
 // The host's date.
 use dates::Date;
-use reasons::Tested;
 use say::{Output, fields};
 
 // Before the host has sent one: no real day, so that a swipe is refused with 23.
@@ -15,40 +14,31 @@ pub fn none() -> Date {
 // Keeps a date, or refuses it.
 fn keep(out: &mut Output, date: Date, kept: Date) -> Date {
     match dates::test(date) {
-        Tested::Passes => {
+        Ok(()) => {
             let numbers = [date.year as u64, date.month as u64, date.day as u64];
             say::sentence(out, b"date # # #\n", &numbers);
             date
         }
-        Tested::Refused(why) => {
+        Err(why) => {
             say::refused(out, why);
             kept
         }
     }
 }
 
+// A date from a line; none where a number isn't understood, which is answered.
+fn date_in(out: &mut Output, line: &[u8]) -> Option<Date> {
+    let year = fields::number(out, line, 1, 4294967295)? as u32;
+    let month = fields::number(out, line, 2, 4294967295)? as u32;
+    let day = fields::number(out, line, 3, 4294967295)? as u32;
+    Some(Date { year, month, day })
+}
+
 // Takes a date from a line. The answer is what is kept from now on: what was kept before where the line isn't understood or the date is
 // refused.
 pub fn take_in(out: &mut Output, line: &[u8], kept: Date) -> Date {
-    let year = fields::number(out, line, 1, 4294967295);
-    let year_known = year.clear;
-    if !year_known {
-        return kept;
+    match date_in(out, line) {
+        Some(date) => keep(out, date, kept),
+        None => kept,
     }
-    let month = fields::number(out, line, 2, 4294967295);
-    let month_known = month.clear;
-    if !month_known {
-        return kept;
-    }
-    let day = fields::number(out, line, 3, 4294967295);
-    let day_known = day.clear;
-    if !day_known {
-        return kept;
-    }
-    let date = Date {
-        year: year.value as u32,
-        month: month.value as u32,
-        day: day.value as u32,
-    };
-    keep(out, date, kept)
 }

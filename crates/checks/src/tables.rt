@@ -1,5 +1,5 @@
 // The range tables of the site and the acquirer, and the look-up.
-use ranges::Found;
+use ranges::Place;
 use say::{Output, fields};
 
 // A table's records; bytes over are told too, since a look-up refuses such a table.
@@ -16,12 +16,9 @@ fn records(out: &mut Output, name: &[u8], length: usize) {
 // Takes a table from a line. The answer is how many bytes of the buffer are in use from now on: those in use before where the
 // line isn't understood.
 pub fn take_in(out: &mut Output, name: &[u8], line: &[u8], table: &mut [u8], used: usize) -> usize {
-    let filled = fields::bytes(out, line, table);
-    let clear = filled.clear;
-    if !clear {
+    let Some(n) = fields::bytes(out, line, table) else {
         return used;
-    }
-    let n = filled.length;
+    };
     records(out, name, n);
     n
 }
@@ -35,8 +32,8 @@ fn record(out: &mut Output, name: &[u8], at: usize, bytes: &[u8]) {
 
 pub fn range(out: &mut Output, site: &[u8], acquirer: &[u8], pan: &[u8]) {
     match ranges::find(site, acquirer, pan) {
-        Found::Site(at) => record(out, b"site ", at, text::piece(site, at, 16)),
-        Found::Acquirer(at) => record(out, b"acquirer ", at, text::piece(acquirer, at, 16)),
-        Found::Refused(why) => say::refused(out, why),
+        Ok(Place::Site(at)) => record(out, b"site ", at, text::piece(site, at, 16)),
+        Ok(Place::Acquirer(at)) => record(out, b"acquirer ", at, text::piece(acquirer, at, 16)),
+        Err(why) => say::refused(out, why),
     }
 }

@@ -1,7 +1,5 @@
 // Checks on texts: Luhn, IBAN, creditor reference, masking.
-use luhn::Made as Digit;
-use mod97::Made;
-use reasons::Tested;
+use reasons::Reason;
 use say::Output;
 
 pub fn luhn_test(out: &mut Output, text: &[u8]) {
@@ -10,12 +8,11 @@ pub fn luhn_test(out: &mut Output, text: &[u8]) {
 
 pub fn luhn_make(out: &mut Output, body: &[u8]) {
     match luhn::make(body) {
-        Digit::Digit(b) => {
-            let digit = [b];
-            say::named(out, b"digit ", &digit);
+        Ok(digit) => {
+            say::named(out, b"digit ", &[digit]);
             say::line(out);
         }
-        Digit::Refused(why) => say::refused(out, why),
+        Err(why) => say::refused(out, why),
     }
 }
 
@@ -23,22 +20,15 @@ pub fn iban_test(out: &mut Output, text: &[u8]) {
     say::tested(out, iban::test(text));
 }
 
-// A check pair, two digits.
-fn pair(out: &mut Output, n: u32) {
-    if n < 10 {
-        say::value(out, b"pair 0", n as u64);
-    } else {
-        say::value(out, b"pair ", n as u64);
-    }
-}
-
-fn made(out: &mut Output, m: Made) {
-    match m {
-        Made::Pair(n) => {
-            pair(out, n);
+// A check pair, two digits, or why there is none.
+fn made(out: &mut Output, pair: Result<u32, Reason>) {
+    match pair {
+        Ok(n) => {
+            let name: &[u8] = if n < 10 { b"pair 0" } else { b"pair " };
+            say::value(out, name, u64::from(n));
             say::line(out);
         }
-        Made::Refused(why) => say::refused(out, why),
+        Err(why) => say::refused(out, why),
     }
 }
 
@@ -57,10 +47,10 @@ pub fn creditor_make(out: &mut Output, body: &[u8]) {
 pub fn mask(out: &mut Output, pan: &[u8]) {
     let mut masked = [0u8; 19];
     match pan::mask(pan, &mut masked) {
-        Tested::Passes => {
+        Ok(()) => {
             say::named(out, b"masked ", text::piece(&masked, 0, pan.len()));
             say::line(out);
         }
-        Tested::Refused(why) => say::refused(out, why),
+        Err(why) => say::refused(out, why),
     }
 }

@@ -1,19 +1,32 @@
--- A body by the code's three runs, and place by place.
-use Prim.Native.Nat.{ℕ, zero, suc, ◌+◌, ◌≤◌}
+-- A body by its runs, and place by place.
+use Prim.Native.Nat.{ℕ, zero, suc, ◌+◌, ◌-◌, ◌<◌, ◌≤◌}
 use mathlib.Core.Path.{◌≡◌, refl, sym, ap, ◌∙◌}
-use mathlib.Core.Bool.{Bool, false, ◌&&◌, and-true, and-false, and_assoc}
+use mathlib.Core.Bool.{Bool, true, false, ◌&&◌, and-false, and_assoc}
 use mathlib.Core.List.{List, [], ◌∷◌, ◌++◌}
 use native.Mathlib.Omega.{arith}
 use native.Mathlib.Nat.{le_of_suc-le-suc, not-suc-le-zero}
-use native.Mathlib.Decide.{ℕ_discrete}
+use native.Mathlib.Numerals.{add-one}
 use lib.Dec.{eqb}
-use lib.ListN.{length, take, drop, replicate, length-drop, length-append, length-replicate, drop_of_length-le}
-use lib.Seq.{drop-drop, take_all}
-use borrow.Author.Tests.{eq-eqb, ne_eqb}
+use lib.ListN.{length, get_or, take, drop, replicate, length-drop, drop_of_length-le}
+use lib.Seq.{drop-cons, take_all}
+use borrow.Author.Tests.{ne_eqb}
+use Rattle.std.specs.Prelude.{Option, Some, None, is_some}
+use Rattle.std.specs.Option.{option_map}
+use Rattle.std.specs.List.{list_all}
 use Rattle.text.specs.Bytes.{every}
-use Rattle.countries.specs.Countries.{Kind, kind_n, kind_a, kind_c, kind_fits, Run, table, row_in, kinds_of, fits}
-use Rattle.countries.specs.Stored.{letter_of, kind_of, stored, fits_stored}
+use Rattle.countries.specs.Countries.{table, row_of, runs_in, kind_fits, kinds_of, fits}
+use Rattle.countries.specs.Stored.{three, stored}
+use Rattle.countries.specs.declared.Kind.{Kind}
+use Rattle.countries.specs.declared.Kind.TheVariants.{Digits}
+use Rattle.countries.specs.declared.Run.{Run}
+use Rattle.countries.specs.declared.Row.{Row}
 use Rattle.countries.proofs.Rows.{few_runs_lem}
+
+-- what the library says of every byte
+pub every_all : (f : ℕ → Bool) (s : List ℕ) → list_all f s ≡ every f s
+unfolding every
+every_all f [] = refl
+every_all f (b ∷ s) = ap (λ (t : Bool). f b && t) (every_all f s)
 
 -- a body with a run in front
 fits_run : (k : Kind) (m : ℕ) (ks : List Kind) (s : List ℕ) → m ≤ length s
@@ -25,64 +38,75 @@ fits_run k (suc m) ks (b ∷ s) h =
     ap (λ (t : Bool). kind_fits k b && t) (fits_run k m ks s (le_of_suc-le-suc h))
     ∙ sym (and_assoc (kind_fits k b) (every (kind_fits k) (take m s)) (fits ks (drop m s)))
 
-fits_wrong : (ks : List Kind) (s : List ℕ) → (length s ≡ length ks → ⊥) → fits ks s ≡ false
+-- and one that is too short for it
+fits_short : (k : Kind) (m : ℕ) (ks : List Kind) (s : List ℕ) → length s < m → fits (replicate m k ++ ks) s ≡ false
 unfolding fits
-fits_wrong [] [] h = absurd (h refl)
-fits_wrong [] (b ∷ s) h = refl
-fits_wrong (k ∷ ks) [] h = refl
-fits_wrong (k ∷ ks) (b ∷ s) h = rw (fits_wrong ks s (λ e. h (ap suc e))) (and-false (kind_fits k b))
+fits_short k zero ks s h = absurd (omega arith)
+fits_short k (suc m) ks [] h = refl
+fits_short k (suc m) ks (b ∷ s) h = rw (fits_short k m ks s (le_of_suc-le-suc h)) (and-false (kind_fits k b))
 
--- three runs, as the code tests them
-module _ (k l m : Kind) (p q d : ℕ) (s : List ℕ) where
-  kinds : List Kind
-  kinds = replicate p k ++ (replicate q l ++ (replicate d m ++ []))
+fits_none : (s : List ℕ) → fits [] s ≡ eqb (length s) 0
+unfolding fits
+fits_none [] = refl
+fits_none (b ∷ s) = sym (ne_eqb (length (b ∷ s)) 0 (λ e. omega arith))
 
-  kinds_length : length kinds ≡ p + q + d
-  unfolding kinds
-  kinds_length = simp (length-append, length-replicate) (omega arith)
+abbrev no_run : Run
+no_run = record { size = 0; kind = Digits }
 
-  abbrev run_by_run : Bool
-  run_by_run = every (kind_fits k) (take p s) && (every (kind_fits l) (take q (drop p s)) && every (kind_fits m) (drop (p + q) s))
+-- a turn of the code's test, of the run i on what is left of the body
+module _ (runs : List Run) (s : List ℕ) (i : ℕ) (t : Bool) (far : fits (kinds_of (drop i runs)) s ≡ t) where
+  module _ (h : i < length runs) where
+    turn : fits (replicate (get_or runs i no_run).size (get_or runs i no_run).kind ++ kinds_of (drop (i + 1) runs)) s ≡ t
+    unfolding kinds_of
+    turn = ap (λ (n : ℕ). fits (replicate (get_or runs i no_run).size (get_or runs i no_run).kind ++ kinds_of (drop n runs)) s) (add-one i) ∙ (rw (drop-cons runs i no_run h) at far)
 
-  three_in : length s ≡ p + q + d → fits kinds s ≡ run_by_run
-  unfolding kinds fits
-  three_in e =
-      let u = length-drop p s in
-      let v = length-drop q (drop p s) in
-      let w : length (drop q (drop p s)) ≤ d = omega arith in
-      fits_run k p (replicate q l ++ (replicate d m ++ [])) s (omega arith)
-      ∙ ap (λ (t : Bool). every (kind_fits k) (take p s) && t)
-      (fits_run l q (replicate d m ++ []) (drop p s) (omega arith)
-      ∙ ap (λ (t : Bool). every (kind_fits l) (take q (drop p s)) && t)
-      (fits_run m d [] (drop q (drop p s)) (omega arith)
-      ∙ rw (take_all d (drop q (drop p s)) w, drop_of_length-le (drop q (drop p s)) {i = d} w, drop-drop q p s)
-      (and-true (every (kind_fits m) (drop (p + q) s)))))
+    pub run_short : length s < (get_or runs i no_run).size → false ≡ t
+    run_short l = sym (fits_short (get_or runs i no_run).kind (get_or runs i no_run).size (kinds_of (drop (i + 1) runs)) s l) ∙ turn
 
-  three : (eqb (length s) (p + q + d) && run_by_run) ≡ fits kinds s
-  three = go (ℕ_discrete (length s) (p + q + d))
-    where
-      go : Dec (length s ≡ p + q + d) → (eqb (length s) (p + q + d) && run_by_run) ≡ fits kinds s
-      go (yes e) = rw (eq-eqb (length s) (p + q + d) e) (sym (three_in e))
-      go (no e) = rw (ne_eqb (length s) (p + q + d) e) (sym (fits_wrong kinds s (λ w. e (w ∙ kinds_length))))
+    module _ (room : (get_or runs i no_run).size ≤ length s) where
+      run_then : (every (kind_fits (get_or runs i no_run).kind) (take (get_or runs i no_run).size s) && fits (kinds_of (drop (i + 1) runs)) (drop (get_or runs i no_run).size s)) ≡ t
+      run_then = sym (fits_run (get_or runs i no_run).kind (get_or runs i no_run).size (kinds_of (drop (i + 1) runs)) s room) ∙ turn
 
--- a kind comes back from its letter
-back : (k : Kind) → kind_of (letter_of k) ≡ k
-unfolding kind_of
-back kind_n = refl
-back kind_a = refl
-back kind_c = refl
+      pub run_misfit : every (kind_fits (get_or runs i no_run).kind) (take (get_or runs i no_run).size s) ≡ false → false ≡ t
+      run_misfit e = sym (ap (λ (u : Bool). u && fits (kinds_of (drop (i + 1) runs)) (drop (get_or runs i no_run).size s)) e) ∙ run_then
 
-few : (country : List ℕ) (rs : List Run) → length rs ≤ 3 → (s : List ℕ) → fits_stored (stored (record { country = country; runs = rs })) s ≡ fits (kinds_of rs) s
-unfolding fits_stored kinds_of kinds
-few country [] h s = three (kind_of 0) (kind_of 0) (kind_of 0) 0 0 0 s
-few country (p ∷ []) h s = rw (back p.kind) (three p.kind (kind_of 0) (kind_of 0) p.size 0 0 s)
-few country (p ∷ q ∷ []) h s = rw (back p.kind, back q.kind) (three p.kind q.kind (kind_of 0) p.size q.size 0 s)
-few country (p ∷ q ∷ r ∷ []) h s =
-    rw (back p.kind, back q.kind, back r.kind) (three p.kind q.kind r.kind p.size q.size r.size s)
-few country (p ∷ q ∷ r ∷ o ∷ rs) h s = absurd (omega arith)
+      pub run_passed : (n : ℕ) → n ≡ length s - (get_or runs i no_run).size → every (kind_fits (get_or runs i no_run).kind) (take (get_or runs i no_run).size s) ≡ true
+          → fits (kinds_of (drop (i + 1) runs)) (take n (drop (get_or runs i no_run).size s)) ≡ t
+      run_passed n k e =
+          ap (fits (kinds_of (drop (i + 1) runs))) (take_all n (drop (get_or runs i no_run).size s) (omega (arith, length-drop (get_or runs i no_run).size s)))
+          ∙ sym (ap (λ (u : Bool). u && fits (kinds_of (drop (i + 1) runs)) (drop (get_or runs i no_run).size s)) e) ∙ run_then
+
+  pub runs_end : length runs ≤ i → eqb (length s) 0 ≡ t
+  unfolding kinds_of
+  runs_end h = sym (fits_none s) ∙ ap (λ (rs : List Run). fits (kinds_of rs) s) (sym (drop_of_length-le runs {i = i} h)) ∙ far
+
+-- the turns of the test, and its end
+pub ruleset run_laws = (run_short, run_misfit, run_passed, runs_end)
+
+-- the runs that the code has in place of the paper's have the same places
+three_kinds : (runs : List Run) → length runs ≤ 3 → kinds_of (three runs) ≡ kinds_of runs
+unfolding kinds_of
+three_kinds [] h = refl
+three_kinds (p ∷ []) h = refl
+three_kinds (p ∷ q ∷ []) h = refl
+three_kinds (p ∷ q ∷ r ∷ []) h = refl
+three_kinds (p ∷ q ∷ r ∷ o ∷ runs) h = absurd (omega arith)
 
 -- what the code tests of the row that it found is what the rule says
-pub row_fits : (x y : ℕ) (r s : List ℕ) → r ≡ stored (row_in table x y) → fits_stored r s ≡ fits (kinds_of (row_in table x y).runs) s
-row_fits x y r s e =
-    let w = row_in table x y in
-    ap (λ (q : List ℕ). fits_stored q s) e ∙ few w.country w.runs (few_runs_lem x y) s
+pub row_fits : (x y : ℕ) (r : Row) (s : List ℕ) → option_map stored (row_of table x y) ≡ Some r
+    → (is_some (row_of table x y) ≡ true) × (fits (kinds_of r.runs) s ≡ fits (kinds_of (runs_in (row_of table x y))) s)
+row_fits x y r s = go (row_of table x y) (few_runs_lem x y)
+  where
+    go : (o : Option Row) → length (runs_in o) ≤ 3 → option_map stored o ≡ Some r → (is_some o ≡ true) × (fits (kinds_of r.runs) s ≡ fits (kinds_of (runs_in o)) s)
+    go None h e = cc
+    go (Some w) h e =
+        let k : stored w ≡ r = cc in
+        (refl, ap (λ (q : Row). fits (kinds_of q.runs) s) (sym k) ∙ ap (λ (ks : List Kind). fits ks s) (three_kinds w.runs h))
+
+-- and where it finds none the country isn't listed
+pub none_listed : (x y : ℕ) → option_map stored (row_of table x y) ≡ None → is_some (row_of table x y) ≡ false
+none_listed x y = go (row_of table x y)
+  where
+    go : (o : Option Row) → option_map stored o ≡ None → is_some o ≡ false
+    go None e = refl
+    go (Some w) e = cc

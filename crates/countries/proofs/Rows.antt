@@ -1,90 +1,105 @@
--- The table: its search, and the rule of its rows.
+-- The table: its search, and the rules of its rows.
 use Prim.Native.Nat.{ℕ, zero, suc, ◌+◌, ◌<◌, ◌≤◌}
-use mathlib.Core.Path.{◌≡◌, refl}
-use mathlib.Core.Bool.{Bool, true, false, cond, and-false}
+use mathlib.Core.Path.{◌≡◌, refl, sym, ap, ◌∙◌}
+use mathlib.Core.Bool.{Bool, true, false, cond, ◌&&◌, and-true}
 use mathlib.Core.List.{List, [], ◌∷◌, map}
-use mathlib.Core.Logic.{◌⊎◌, inl, inr}
 use native.Mathlib.Numerals.{add-one}
 use native.Mathlib.Nat.{le_of_suc-le-suc, not-suc-le-zero}
-use native.Mathlib.Decide.{dec_lt}
 use native.Mathlib.Omega.{arith}
-use lib.Dec.{T, eqb, leb, leb→le}
-use lib.ListN.{length, get_or, drop, drop_of_length-le, get_or-eq_default}
+use lib.Dec.{T, eqb, leb, leb→le, eqb→eq}
+use lib.ListN.{length, get_or, drop, drop_of_length-le}
+use lib.Pointwise.{pointwise}
 use lib.Seq.{drop-cons}
-use borrow.Author.Tests.{eq-eqb, ne_eqb}
-use Rattle.text.proofs.Table.{all_entries, entry}
-use Rattle.countries.specs.Countries.{Row, table, no_row, is_of, listed_in, row_in}
+use Rattle.std.proofs.Common.{Some, None}
+use Rattle.std.specs.Option.{option_map}
+use Rattle.text.proofs.Table.{entry}
+use Rattle.countries.specs.Countries.{table, is_of, row_of, runs_in}
 use Rattle.countries.specs.Stored.{stored}
+use Rattle.countries.specs.declared.Run.{Run}
+use Rattle.countries.specs.declared.Row.{Row}
 
--- the code's table has the paper's rows, each in its place
+abbrev no_row : Row
+no_row = record { country = []; runs = [] }
+
+-- ---- the rules of the rows
+
+-- a row's letters are two
+two_letters : (i : ℕ) → i < 34 → length (get_or table i no_row).country ≡ 2
+unfolding table
+two_letters i h = eqb→eq (length (get_or table i no_row).country) 2 (entry (λ r. eqb (length r.country) 2) table no_row tt i h)
+
+-- the runs that are found have a rule that those of every row have, and no runs
+runs_rule : (rule : List Run → Bool) (rs : List Row) (x y : ℕ) → T (rule []) → ((i : ℕ) → i < length rs → T (rule (get_or rs i no_row).runs))
+    → T (rule (runs_in (row_of rs x y)))
+unfolding row_of
+runs_rule rule [] x y n h = n
+runs_rule rule (r ∷ rs) x y n h = go (is_of x y r) (h 0 (omega arith)) (runs_rule rule rs x y n (λ i l. h (suc i) (omega arith)))
+  where
+    go : (t : Bool) → T (rule r.runs) → T (rule (runs_in (row_of rs x y))) → T (rule (runs_in (cond t (Some r) (row_of rs x y))))
+    go true a b = a
+    go false a b = b
+
+-- "No row has more than three runs."
+abbrev few_runs : List Run → Bool
+few_runs runs = leb (length runs) 3
+
+pub few_runs_lem : (x y : ℕ) → length (runs_in (row_of table x y)) ≤ 3
+unfolding table
+few_runs_lem x y =
+    leb→le (length (runs_in (row_of table x y))) 3
+    (runs_rule few_runs table x y tt (entry (λ r. few_runs r.runs) table no_row tt))
+
+-- ---- the search
+
+-- what is left of the search from the row i
+module _ (rs : List Row) (x y i : ℕ) where
+  hit : i < length rs → is_of x y (get_or rs i no_row) ≡ true → row_of (drop i rs) x y ≡ Some (get_or rs i no_row)
+  unfolding row_of
+  hit h e = rw (drop-cons rs i no_row h, e)
+
+  passed_by : i < length rs → is_of x y (get_or rs i no_row) ≡ false → row_of (drop (i + 1) rs) x y ≡ row_of (drop i rs) x y
+  unfolding row_of
+  passed_by h e = rw (drop-cons rs i no_row h, add-one, e)
+
+  none : length rs ≤ i → row_of (drop i rs) x y ≡ None
+  unfolding row_of
+  none h = rw (drop_of_length-le rs h)
+
 mapped : {A B : Type 0} (f : A → B) (xs : List A) (d : A) (e : B) (k : ℕ) → k < length xs → get_or (map f xs) k e ≡ f (get_or xs k d)
 mapped f [] d e k h = absurd (not-suc-le-zero h)
 mapped f (x ∷ xs) d e zero h = refl
 mapped f (x ∷ xs) d e (suc k) h = mapped f xs d e k (le_of_suc-le-suc h)
 
-pub row_at : (e : List ℕ) (i : ℕ) → i < 34 → get_or (map stored table) i e ≡ stored (get_or table i no_row)
-unfolding table
-row_at e i h = mapped stored table no_row e i h
+-- two letters are those of a country exactly where each is
+both_letters : (s : List ℕ) (x y : ℕ) → length s ≡ 2 → pointwise eqb s (x ∷ y ∷ []) ≡ (eqb (get_or s 0 0) x && eqb (get_or s 1 0) y)
+both_letters [] x y h = absurd (omega arith)
+both_letters (a ∷ []) x y h = absurd (omega arith)
+both_letters (a ∷ b ∷ []) x y h = ap (λ (t : Bool). eqb a x && t) (and-true (eqb b y))
+both_letters (a ∷ b ∷ c ∷ s) x y h = absurd (omega arith)
 
-pub in_table : (i : ℕ) → i < 34 → i < length table
-unfolding table
-in_table i h = h
+-- a turn of the code's search, which has the table's rows as they are stored
+module _ (rows : List Row) (x y i : ℕ) (kept : rows ≡ map stored table) (far : row_of (drop i table) x y ≡ row_of table x y) where
+  module _ (h : i < 34) where
+    row_is : get_or rows i no_row ≡ stored (get_or table i no_row)
+    unfolding table
+    row_is = ap (λ (rs : List Row). get_or rs i no_row) kept ∙ mapped stored table no_row no_row i h
 
-pub past-table : (i : ℕ) → 34 ≤ i → length table ≤ i
-unfolding table
-past-table i h = h
+    letters_are : pointwise eqb (get_or rows i no_row).country (x ∷ y ∷ []) ≡ is_of x y (get_or table i no_row)
+    letters_are = ap (λ (r : Row). pointwise eqb r.country (x ∷ y ∷ [])) row_is ∙ both_letters (get_or table i no_row).country x y (two_letters i h)
 
--- what is left of the search from the row i
-module _ (rs : List Row) (x y i : ℕ) where
-  -- what it finds is the same, one row later
-  abbrev Onward : Type 0
-  Onward = (listed_in (drop (i + 1) rs) x y ≡ listed_in (drop i rs) x y) × (row_in (drop (i + 1) rs) x y ≡ row_in (drop i rs) x y)
+    pub row_found : pointwise eqb (get_or rows i no_row).country (x ∷ y ∷ []) ≡ true → Some (get_or rows i no_row) ≡ option_map stored (row_of table x y)
+    unfolding table
+    row_found e =
+        let w : row_of table x y ≡ Some (get_or table i no_row) = sym far ∙ hit table x y i h (sym letters_are ∙ e) in
+        ap Some row_is ∙ sym (ap (option_map stored) w)
 
-  module _ (h : i < length rs) where
-    pub hit : get_or (get_or rs i no_row).country 0 0 ≡ x → get_or (get_or rs i no_row).country 1 0 ≡ y
-        → (listed_in (drop i rs) x y ≡ true) × (row_in (drop i rs) x y ≡ get_or rs i no_row)
-    unfolding listed_in row_in
-    hit p q =
-        let e : is_of x y (get_or rs i no_row) ≡ true = rw (eq-eqb (get_or (get_or rs i no_row).country 0 0) x p) (eq-eqb (get_or (get_or rs i no_row).country 1 0) y q) in
-        rw (drop-cons rs i no_row h) (rw e refl, rw e refl)
+    pub row_passed : pointwise eqb (get_or rows i no_row).country (x ∷ y ∷ []) ≡ false → row_of (drop (i + 1) table) x y ≡ row_of table x y
+    unfolding table
+    row_passed e = passed_by table x y i h (sym letters_are ∙ e) ∙ far
 
-    passed_by : is_of x y (get_or rs i no_row) ≡ false → Onward
-    unfolding listed_in row_in
-    passed_by e = rw (drop-cons rs i no_row h, add-one) (rw e refl, rw e refl)
+  pub none_found : 34 ≤ i → None ≡ option_map stored (row_of table x y)
+  unfolding table
+  none_found h = sym (ap (option_map stored) (sym far ∙ none table x y i h))
 
-    pub other : (get_or (get_or rs i no_row).country 0 0 ≡ x → ⊥) ⊎ (get_or (get_or rs i no_row).country 1 0 ≡ y → ⊥) → Onward
-    other (inl p) = passed_by (rw (ne_eqb (get_or (get_or rs i no_row).country 0 0) x p))
-    other (inr q) = passed_by (rw (ne_eqb (get_or (get_or rs i no_row).country 1 0) y q) (and-false (eqb (get_or (get_or rs i no_row).country 0 0) x)))
-
-  pub none : length rs ≤ i → (listed_in (drop i rs) x y ≡ false) × (row_in (drop i rs) x y ≡ no_row)
-  unfolding listed_in row_in
-  none h = rw (drop_of_length-le rs h) (refl, refl)
-
--- what is found stands in the table, or past its end where there is none
-found_at : (rs : List Row) (x y : ℕ) → (i : ℕ) × (row_in rs x y ≡ get_or rs i no_row)
-unfolding row_in
-found_at [] x y = (0, refl)
-found_at (r ∷ rs) x y = go (is_of x y r) (found_at rs x y)
-  where
-    go : (t : Bool) → (i : ℕ) × (row_in rs x y ≡ get_or rs i no_row) → (i : ℕ) × (cond t r (row_in rs x y) ≡ get_or (r ∷ rs) i no_row)
-    go true w = (0, refl)
-    go false (i, e) = (suc i, e)
-
--- so it has a rule that every row has, and no_row
-found_rule : (rule : Row → Bool) (rs : List Row) (x y : ℕ) → T (rule no_row) → T (all_entries rule rs no_row) → T (rule (row_in rs x y))
-found_rule rule rs x y n h = go (found_at rs x y)
-  where
-    at : (i : ℕ) → Dec (i < length rs) → T (rule (get_or rs i no_row))
-    at i (yes l) = entry rule rs no_row h i l
-    at i (no l) = rw (get_or-eq_default rs no_row {n = i} (omega arith)) n
-
-    go : (i : ℕ) × (row_in rs x y ≡ get_or rs i no_row) → T (rule (row_in rs x y))
-    go (i, e) = rw e (at i (dec_lt i (length rs)))
-
--- "No row has more than three runs."
-few_runs : Row → Bool
-few_runs r = leb (length r.runs) 3
-
-pub few_runs_lem : (x y : ℕ) → length (row_in table x y).runs ≤ 3
-unfolding few_runs table
-few_runs_lem x y = leb→le (length (row_in table x y).runs) 3 (found_rule few_runs table x y tt tt)
+-- a turn of the search, and its end
+pub ruleset row_laws = (row_found, row_passed, none_found)

@@ -1,42 +1,32 @@
 -- The countries of document 01, section "IBAN", and the kinds of their bodies.
-use Rattle.std.specs.Prelude.{ℕ, ◌+◌, ◌-◌, Bool, true, false, cond, ◌&&◌, ◌||◌, List, [], ◌∷◌, ◌++◌, get_or, replicate, eqb, ltb}
+use Rattle.std.specs.Prelude.{ℕ, ◌+◌, ◌-◌, Bool, true, false, cond, ◌&&◌, ◌||◌, List, [], ◌∷◌, ◌++◌, get_or, replicate, eqb, ltb, Option, Some, None, is_some}
 use Prim.Native.String.{String}
+use Rattle.countries.specs.declared.Kind.{Kind}
+use Rattle.countries.specs.declared.Kind.TheVariants.{Digits, Capitals, Either}
+use Rattle.countries.specs.declared.Run.{Run}
+use Rattle.countries.specs.declared.Row.{Row}
 use Rattle.text.specs.Bytes.{bytes_of, is_digit, is_capital}
 
 -- "Body kinds: n digit, a capital, c digit or capital."
-pub data Kind : Type 0 where
-  kind_n : Kind
-  kind_a : Kind
-  kind_c : Kind
-
 unfoldable pub kind_fits : Kind → ℕ → Bool
-kind_fits kind_n b = is_digit b
-kind_fits kind_a b = is_capital b
-kind_fits kind_c b = is_digit b || is_capital b
+kind_fits Digits b = is_digit b
+kind_fits Capitals b = is_capital b
+kind_fits Either b = is_digit b || is_capital b
 
 -- a run: so many characters of a kind, `4 a`
-pub record Run : Type 0 where
-  pub size : ℕ
-  pub kind : Kind
-
 infix 90 ◌n
 abbrev pub ◌n : ℕ → Run
-m n = record { size = m; kind = kind_n }
+m n = record { size = m; kind = Digits }
 
 infix 90 ◌a
 abbrev pub ◌a : ℕ → Run
-m a = record { size = m; kind = kind_a }
+m a = record { size = m; kind = Capitals }
 
 infix 90 ◌c
 abbrev pub ◌c : ℕ → Run
-m c = record { size = m; kind = kind_c }
+m c = record { size = m; kind = Either }
 
--- a row: a country's letters and the runs of its body
-pub record Row : Type 0 where
-  pub country : List ℕ
-  pub runs : List Run
-
--- a row for each of the countries that have these runs
+-- a row, of a country's letters and the runs of its body, for each of the countries that have these runs
 infix 66 ◌for◌
 abbrev pub ◌for◌ : List Run → List String → List Row
 runs for [] = []
@@ -69,28 +59,25 @@ table =
     ++ 10 n ∷ 11 c ∷ 2 n ∷ [] for "FR" ∷ "MC" ∷ []
     ++ 1 a ∷ 10 n ∷ 12 c ∷ [] for "IT" ∷ "SM" ∷ []
 
-abbrev pub no_row : Row
-no_row = record { country = []; runs = [] }
-
 -- the row is that of the country with letters x and y
 abbrev pub is_of : ℕ → ℕ → Row → Bool
 is_of x y r = eqb (get_or r.country 0 0) x && eqb (get_or r.country 1 0) y
 
--- such a row is among these, and which it is
-unfoldable pub listed_in : List Row → ℕ → ℕ → Bool
-listed_in [] x y = false
-listed_in (r ∷ rs) x y = is_of x y r || listed_in rs x y
+-- the first such row among these
+unfoldable pub row_of : List Row → ℕ → ℕ → Option Row
+row_of [] x y = None
+row_of (r ∷ rs) x y = cond (is_of x y r) (Some r) (row_of rs x y)
 
-unfoldable pub row_in : List Row → ℕ → ℕ → Row
-row_in [] x y = no_row
-row_in (r ∷ rs) x y = cond (is_of x y r) r (row_in rs x y)
+abbrev pub runs_in : Option Row → List Run
+runs_in None = []
+runs_in (Some r) = r.runs
 
 -- the country whose letters begin a text: whether it is listed, and the runs of its body
 abbrev pub listed : List ℕ → Bool
-listed s = listed_in table (get_or s 0 0) (get_or s 1 0)
+listed s = is_some (row_of table (get_or s 0 0) (get_or s 1 0))
 
 abbrev pub runs_of : List ℕ → List Run
-runs_of s = (row_in table (get_or s 0 0) (get_or s 1 0)).runs
+runs_of s = runs_in (row_of table (get_or s 0 0) (get_or s 1 0))
 
 -- the kind of each place of a body, one run after another
 unfoldable pub kinds_of : List Run → List Kind
@@ -105,9 +92,9 @@ fits (k ∷ ks) [] = false
 fits (k ∷ ks) (b ∷ s) = kind_fits k b && fits ks s
 
 abbrev pub is_c : Kind → Bool
-is_c kind_n = false
-is_c kind_a = false
-is_c kind_c = true
+is_c Digits = false
+is_c Capitals = false
+is_c Either = true
 
 -- places m and m + 1 of a body, counted from 0, lie in "one run of c"
 unfoldable pub in_run_of_c : List Run → ℕ → Bool

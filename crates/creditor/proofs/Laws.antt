@@ -10,7 +10,8 @@ use lib.Dec.{eqb}
 use lib.ListN.{length, get_or, set, take, drop, length-drop, take-append-drop}
 use borrow.Author.Tests.{eqb-true}
 use Rattle.reasons.specs.Reasons.{gives, refuses, said}
-use Rattle.reasons.specs.declared.Tested.{Tested}
+use Rattle.reasons.specs.declared.Reason.{Reason}
+use Rattle.std.specs.Prelude.{Result}
 use Rattle.reasons.proofs.Laws.{said_one}
 use Rattle.text.specs.Bytes.{bytes_of, is_digit, is_capital, every, swap}
 use Rattle.text.specs.Numbers.{decimal_after}
@@ -18,25 +19,24 @@ use Rattle.text.proofs.Every.{every_right}
 use Rattle.text.proofs.Tests.{inside, inside_is, both_true}
 use Rattle.mod97.specs.Kinds.{Digit, Capital, SameKind, Mixed, Unseen}
 use Rattle.mod97.specs.Text.{number, in_decimal, written, number_after}
-use Rattle.mod97.specs.Pair.{leaves, pair_digits, pair_of, checks, paired, pair_for, said_made}
-use Rattle.mod97.specs.declared.Made.{Made}
+use Rattle.mod97.specs.Pair.{leaves, pair_digits, pair_of, checks, paired, pair_for}
 use Rattle.mod97.proofs.Refusals.{Sound}
 use Rattle.mod97.proofs.Refusals as refusals
 use Rattle.mod97.proofs.Standard.{AllYes, answers, goes_on, making}
 use Rattle.mod97.proofs.Standard as standards
-use Rattle.mod97.proofs.Pairs.{kept, pair_digits_kept, digit_is, pair_digits_is, made-within, pair_is_made, said_made_one}
+use Rattle.mod97.proofs.Pairs.{kept, pair_digits_kept, digit_is, pair_digits_is, made-within, pair_is_made}
 use Rattle.creditor.proofs.Rule.{standard, make_answers}
 use Rattle.creditor.specs.Creditor.{is_plain, all_plain, laid_out, creditor_rule, make_rule}
 
 -- ---- one answer
 
 -- any two answers that the promise of `test` allows are equal
-pub test_one : (s : List ℕ) (r q : Tested) → said r ≡ creditor_rule s → said q ≡ creditor_rule s → r ≡ q
+pub test_one : (s : List ℕ) (r q : Result (Unit {0}) Reason) → said r ≡ creditor_rule s → said q ≡ creditor_rule s → r ≡ q
 test_one s r q e f = said_one r q (e ∙ sym f)
 
 -- and so for `make`
-pub make_one : (s : List ℕ) (r q : Made) → said_made r ≡ make_rule s → said_made q ≡ make_rule s → r ≡ q
-make_one s r q e f = said_made_one r q (e ∙ sym f)
+pub make_one : (s : List ℕ) (r q : Result ℕ Reason) → said r ≡ make_rule s → said q ≡ make_rule s → r ≡ q
+make_one s r q e f = said_one r q (e ∙ sym f)
 
 -- ---- accepted texts
 

@@ -8,6 +8,7 @@ use borrow.Author.Tests.{le-leb, lt-leb}
 use lib.Dec.{eqb}
 use lib.ListN.{length, take, drop, length-drop, take-append-drop}
 use lib.Seq.{take_all, length-take-le}
+use Rattle.std.proofs.Common.{Some}
 use Rattle.text.specs.Bytes.{is_digit, all_digits}
 use Rattle.text.specs.Numbers.{decimal}
 use Rattle.text.proofs.Every.{every_left, every_right}
@@ -19,7 +20,6 @@ use Rattle.layout.specs.Layout.{is_expiry}
 use Rattle.layout.proofs.Forms.{expiry_is}
 use Rattle.dates.specs.Dates.{date, leap, days_in, real, day_number, expiry_year, expiry_month, last_day, days_rule}
 use Rattle.dates.specs.declared.Date.{Date}
-use Rattle.dates.specs.declared.Left.TheVariants.{Days}
 use Rattle.dates.proofs.Calendar.{month_there, is_real}
 
 module _ (t : List ℕ) (x : is_expiry t ≡ true) where
@@ -71,6 +71,6 @@ module _ (a : Date) (t : List ℕ) (last today : ℕ) (e : last ≡ day_number (
   unfolding days_rule
   expired h = stops _ 24 _ (lt-leb (day_number a) (day_number (last_day t)) (omega arith))
 
-  pub left : today ≤ last → days_rule a t ≡ gives (Days (last - today))
+  pub left : today ≤ last → days_rule a t ≡ gives (Some (last - today))
   unfolding days_rule
   left h = passes_on _ 24 _ (le-leb (day_number a) (day_number (last_day t)) (omega arith)) ∙ rw (e, f)

@@ -8,23 +8,21 @@ use native.Mathlib.Omega.{arith}
 use native.Mathlib.Decide.{ℕ_discrete, dec_lt}
 use lib.Dec.{ltb, leb}
 use borrow.Author.Tests.{ltb-true, ltb-false, le-leb, lt-leb, leb-true, leb-false}
+use Rattle.std.proofs.Common.{Option, None, Some, Result}
 use Rattle.text.specs.Bytes.{within}
 use Rattle.reasons.specs.Reasons.{Outcome, gives, refuses, said}
-use Rattle.reasons.specs.declared.Tested.{Tested}
+use Rattle.reasons.specs.declared.Reason.{Reason}
 use Rattle.reasons.proofs.Laws.{First, gives_refuses, said_one, passed, stopped, stops}
 use Rattle.layout.specs.Layout.{is_expiry}
-use Rattle.layout.specs.Grammar.{Optional, absent, present}
 use Rattle.dates.specs.Dates.{date, leap, days_in, month_days, real, date_rule, days_rule, left_rule}
 use Rattle.dates.specs.Dates.{sum_below, months_before, year_length, years_from2000, day_number, expiry_year, expiry_month, last_day}
 use Rattle.dates.specs.Days.{next_by, next, days_on, Earlier, by_year, by_month, by_day, Expired}
 use Rattle.dates.specs.declared.Date.{Date}
-use Rattle.dates.specs.declared.Left.{Left}
-use Rattle.dates.specs.declared.Left.TheVariants.{Days, NoExpiry}
 use Rattle.dates.proofs.Calendar.{leap_fourth, leap_else, RealDay, real_is, is_real, sum_grows, month_there, none_yet}
 use Rattle.dates.proofs.Expiries.{last_real}
 
 -- any two outcomes that the test of a date allows are equal
-pub test_one : (a : Date) (r q : Tested) → said r ≡ date_rule a → said q ≡ date_rule a → r ≡ q
+pub test_one : (a : Date) (r q : Result (Unit {0}) Reason) → said r ≡ date_rule a → said q ≡ date_rule a → r ≡ q
 test_one a r q f g = said_one r q (f ∙ sym g)
 
 -- "with February in leap years": 29 February is a real day exactly in these
@@ -207,32 +205,32 @@ module _ (f : Date → ℕ) (from-0 : f (date 2000 1 1) ≡ 0) (by-1 : (a : Date
 -- ---- a card
 
 -- the expiry refuses with 24 alone, and exactly where the card has expired
-pub left_refuses : (a : Date) (x : Optional) (n : ℕ) → (left_rule a x ≡ refuses n) ↔ ((n ≡ 24) × Expired a x)
+pub left_refuses : (a : Date) (x : Option (List ℕ)) (n : ℕ) → (left_rule a x ≡ refuses n) ↔ ((n ≡ 24) × Expired a x)
 unfolding days_rule
-left_refuses a absent n = (λ e. gives_refuses NoExpiry n e, λ h. absurd h.1)
-left_refuses a (present t) n = (λ e. there (stopped _ 24 _ n e), back)
+left_refuses a None n = (λ e. gives_refuses None n e, λ h. absurd h.1)
+left_refuses a (Some t) n = (λ e. there (stopped _ 24 _ n e), back)
   where
-    there : First (leb (day_number a) (day_number (last_day t))) 24 n (gives (Days (day_number (last_day t) - day_number a)) ≡ refuses n)
+    there : First (leb (day_number a) (day_number (last_day t))) 24 n (gives (Some (day_number (last_day t) - day_number a)) ≡ refuses n)
         → (n ≡ 24) × (day_number (last_day t) < day_number a)
     there (inl h) = (h.1, leb-false _ _ h.0)
     there (inr h) = gives_refuses _ n h.1
 
     back : (n ≡ 24) × (day_number (last_day t) < day_number a) → days_rule a t ≡ refuses n
-    back h = stops _ 24 _ (lt-leb _ _ h.1) ∙ ap {B = Outcome Left} refuses (sym h.0)
+    back h = stops _ 24 _ (lt-leb _ _ h.1) ∙ ap {B = Outcome (Option ℕ)} refuses (sym h.0)
 
 -- "the days left, counted exactly": the number of the last day of the expiry month is so many more
-pub left_exactly : (a : Date) (t : List ℕ) (n : ℕ) → (days_rule a t ≡ gives (Days n)) ↔ (day_number a + n ≡ day_number (last_day t))
+pub left_exactly : (a : Date) (t : List ℕ) (n : ℕ) → (days_rule a t ≡ gives (Some n)) ↔ (day_number a + n ≡ day_number (last_day t))
 unfolding days_rule
 left_exactly a t n = (there, back)
   where
-    there : days_rule a t ≡ gives (Days n) → day_number a + n ≡ day_number (last_day t)
+    there : days_rule a t ≡ gives (Some n) → day_number a + n ≡ day_number (last_day t)
     there e =
-        let p = passed (leb (day_number a) (day_number (last_day t))) 24 (gives (Days (day_number (last_day t) - day_number a))) (Days n) e in
+        let p = passed (leb (day_number a) (day_number (last_day t))) 24 (gives (Some (day_number (last_day t) - day_number a))) (Some n) e in
         let l : day_number a ≤ day_number (last_day t) = leb-true _ _ p.0 in
         let m : day_number (last_day t) - day_number a ≡ n = cc p.1 in
         omega arith
 
-    back : day_number a + n ≡ day_number (last_day t) → days_rule a t ≡ gives (Days n)
+    back : day_number a + n ≡ day_number (last_day t) → days_rule a t ≡ gives (Some n)
     back e =
         let m : day_number (last_day t) - day_number a ≡ n = omega arith in
         rw (le-leb (day_number a) (day_number (last_day t)) (omega arith), m)
@@ -250,21 +248,21 @@ walked a h (suc n) l =
 -- of a card whose expiry is one, on a real day
 module _ (a : Date) (t : List ℕ) (h : real a ≡ true) (x : is_expiry t ≡ true) where
   -- so many days on is the last day of the expiry month
-  pub days_on_lem : (n : ℕ) → days_rule a t ≡ gives (Days n) → days_on n a ≡ last_day t
+  pub days_on_lem : (n : ℕ) → days_rule a t ≡ gives (Some n) → days_on n a ≡ last_day t
   days_on_lem n e =
       let s = (left_exactly a t n).0 e in
       let w = walked a h n (omega (arith, s, at_most_last (last_day t) (last_real t x))) in
       one_number (days_on n a) (last_day t) w.0 (last_real t x) (w.1 ∙ s)
 
   -- "0 on the last day", and on no other
-  pub zero_exactly : (days_rule a t ≡ gives (Days 0)) ↔ (a ≡ last_day t)
+  pub zero_exactly : (days_rule a t ≡ gives (Some 0)) ↔ (a ≡ last_day t)
   zero_exactly = (
     λ e. one_number a (last_day t) h (last_real t x) (omega (arith, (left_exactly a t 0).0 e)),
     λ e. (left_exactly a t 0).1 (omega (arith, ap day_number e)),
   )
 
   -- "A card is good through the last day of its expiry month": expired on the days after it, and on no other
-  pub expired_exactly : Expired a (present t) ↔ Earlier (last_day t) a
+  pub expired_exactly : Expired a (Some t) ↔ Earlier (last_day t) a
   expired_exactly = (λ l. there l (order a (last_day t)), earlier_less (last_day t) a (last_real t x) h)
     where
       there : day_number (last_day t) < day_number a → Order a (last_day t) → Earlier (last_day t) a
@@ -273,7 +271,7 @@ module _ (a : Date) (t : List ℕ) (h : real a ≡ true) (x : is_expiry t ≡ tr
       there l (before e) = absurd (omega (arith, l, earlier_less a (last_day t) h (last_real t x) e))
 
   -- that is, in the months after it
-  pub expired_after : Expired a (present t) ↔ ((expiry_year t < a.year) ⊎ ((expiry_year t ≡ a.year) × (expiry_month t < a.month)))
+  pub expired_after : Expired a (Some t) ↔ ((expiry_year t < a.year) ⊎ ((expiry_year t ≡ a.year) × (expiry_month t < a.month)))
   unfolding last_day
   expired_after = (λ l. there (expired_exactly.0 l), λ s. expired_exactly.1 (back s))
     where

@@ -1,14 +1,9 @@
 -- Dates from 2000 to 2099, and the days that a card has left on one (request E7).
-use Rattle.std.specs.Prelude.{ℕ, zero, suc, ◌+◌, ◌-◌, ◌%◌, Bool, ◌&&◌, ◌||◌, not, cond, List, [], ◌∷◌, leb, eqb, get_or, take, drop}
+use Rattle.std.specs.Prelude.{ℕ, zero, suc, ◌+◌, ◌-◌, ◌%◌, Bool, ◌&&◌, ◌||◌, not, cond, Option, None, Some, List, [], ◌∷◌, leb, eqb, get_or, take, drop}
 use Rattle.text.specs.Bytes.{within}
 use Rattle.text.specs.Numbers.{decimal}
-use Rattle.reasons.specs.Reasons.{Outcome, gives, refuses, demand, number_of}
-use Rattle.layout.specs.Grammar.{Optional, absent, present}
+use Rattle.reasons.specs.Reasons.{Outcome, gives, demand}
 use Rattle.dates.specs.declared.Date.{Date}
-use Rattle.dates.specs.declared.Left.{Left}
-use Rattle.dates.specs.declared.Left.TheVariants.{Days, NoExpiry}
-use Rattle.dates.specs.declared.inner.Validity.{Validity}
-use Rattle.dates.specs.declared.inner.Validity.TheVariants.{Good, Refused}
 
 -- ---- "The host sends a date as year 2000 to 2099, month and day"
 
@@ -73,15 +68,10 @@ unfoldable pub last_day : List ℕ → Date
 last_day t = date (expiry_year t) (expiry_month t) (days_in (leap (expiry_year t)) (expiry_month t))
 
 -- "0 on the last day"; after it the card has expired: 24
-unfoldable pub days_rule : Date → List ℕ → Outcome Left
-days_rule a t = demand (leb (day_number a) (day_number (last_day t))) 24 (gives (Days (day_number (last_day t) - day_number a)))
+unfoldable pub days_rule : Date → List ℕ → Outcome (Option ℕ)
+days_rule a t = demand (leb (day_number a) (day_number (last_day t))) 24 (gives (Some (day_number (last_day t) - day_number a)))
 
 -- "A card with no expiry isn't refused for it", and "gets an answer of its own, no number"
-abbrev pub left_rule : Date → Optional → Outcome Left
-left_rule a absent = gives NoExpiry
-left_rule a (present t) = days_rule a t
-
--- what the answer says in the paper's terms
-abbrev pub said_validity : Validity → Outcome Left
-said_validity (Good l) = gives l
-said_validity (Refused r) = refuses (number_of r)
+abbrev pub left_rule : Date → Option (List ℕ) → Outcome (Option ℕ)
+left_rule a None = gives None
+left_rule a (Some t) = days_rule a t

@@ -1,6 +1,5 @@
 -- The day after a day, and which of two days is the earlier: what the count of days is held against. And when a card has expired.
-use Rattle.std.specs.Prelude.{ℕ, zero, suc, ◌<◌, ◌≡◌, Bool, true, false, ltb}
-use Rattle.layout.specs.Grammar.{Optional, absent, present}
+use Rattle.std.specs.Prelude.{ℕ, zero, suc, ◌<◌, ◌≡◌, Bool, true, false, Option, None, Some, List, ltb}
 use Rattle.dates.specs.Dates.{date, month_days, day_number, last_day}
 use Rattle.dates.specs.declared.Date.{Date}
 
@@ -25,6 +24,6 @@ pub data Earlier (a b : Date) : Type 0 where
   by_day : a.year ≡ b.year → a.month ≡ b.month → a.day < b.day → Earlier a b
 
 -- a card has expired on a day whose number is above that of its last day; one without an expiry never has
-abbrev pub Expired : Date → Optional → Type 0
-Expired a absent = ⊥
-Expired a (present t) = day_number (last_day t) < day_number a
+abbrev pub Expired : Date → Option (List ℕ) → Type 0
+Expired a None = ⊥
+Expired a (Some t) = day_number (last_day t) < day_number a

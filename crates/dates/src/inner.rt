@@ -2,10 +2,10 @@
 ghost use Rattle.std.specs.Prelude.{◌≡◌, true, ◌≤◌};
 ghost use Rattle.layout.specs.Layout.{is_expiry};
 ghost use Rattle.layout.specs.Grammar.{Passes, field_in};
-ghost use Rattle.dates.specs.Dates.{leap, days_in, real, months_before, day_number, last_day, days_rule, left_rule, said_validity};
+ghost use Rattle.dates.specs.Dates.{leap, days_in, real, months_before, day_number, last_day, days_rule, left_rule};
+ghost use Rattle.reasons.specs.Reasons.{said};
 
-use crate::{Date, Left};
-use layout::Field;
+use crate::Date;
 use reasons::Reason;
 
 // ---- the calendar
@@ -45,10 +45,8 @@ fn days_before(year: u32, month: u32) -> u32
     ensures { result ≡ months_before (leap year) month }
 {
     let mut days = 0;
-    let mut m = 1;
-    while m < month {
-        days = days + days_in(year, m);
-        m += 1;
+    for m in 1..month {
+        days += days_in(year, m);
     }
     days
 }
@@ -78,36 +76,29 @@ fn last_day(expiry: &[u8]) -> Date
     }
 }
 
-// The days that a card has left on a date, or that it has expired.
-#[derive(Clone, Copy)]
-pub enum Validity {
-    Good(Left),
-    Refused(Reason),
-}
-
 // The days left on a real day, of a card whose expiry is four digits YYMM.
-fn days_left(date: Date, expiry: &[u8]) -> Validity
+fn days_left(date: Date, expiry: &[u8]) -> Result<Option<u32>, Reason>
     requires { (real date ≡ true) × (is_expiry expiry.now ≡ true) }
-    ensures { said_validity result ≡ days_rule date expiry.now }
+    ensures { said result ≡ days_rule date expiry.now }
 {
     let last = day_number(last_day(expiry));
     let today = day_number(date);
     if last < today {
-        return Validity::Refused(Reason::ExpiredCard);
+        return Err(Reason::ExpiredCard);
     }
-    Validity::Good(Left::Days(last - today))
+    Ok(Some(last - today))
 }
 
-// The days left on a real day, of a card whose expiry, if it has one, stands at a field of its characters.
-pub fn left_on(date: Date, chars: &[u8], expiry: Field) -> Validity
+// The days left on a real day, of a card whose expiry, if it has one, stands in its characters at a place; no number where it has none.
+pub fn left_on(date: Date, chars: &[u8], expiry: Option<usize>) -> Result<Option<u32>, Reason>
     requires { (real date ≡ true) × Passes is_expiry (field_in 4 chars.now expiry) }
-    ensures { said_validity result ≡ left_rule date (field_in 4 chars.now expiry) }
+    ensures { said result ≡ left_rule date (field_in 4 chars.now expiry) }
 {
     match expiry {
-        Field::Absent => Validity::Good(Left::NoExpiry),
-        Field::At(q) => {
-            let end = q + 4;
-            days_left(date, &chars[q..end])
+        None => Ok(None),
+        Some(at) => {
+            let end = at + 4;
+            days_left(date, &chars[at..end])
         }
     }
 }

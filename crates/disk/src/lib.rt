@@ -9,7 +9,7 @@ use std::io::{Error, ErrorKind, Read, Write};
 use std::os::fd::{AsRawFd, IntoRawFd};
 use std::os::unix::fs::{FileExt, PermissionsExt};
 use std::rt::Files;
-use std::{fs, io};
+use std::{fmt, fs, io};
 
 // ---- descriptors
 
@@ -33,31 +33,51 @@ pub fn fill_standard<R: Files<File = File>>(rt: &R) -> bool {
     false
 }
 
-// ---- an existing file
+// ---- what can't be done
 
-// Whether a file can be used, or what could not be done with it, and why.
-#[derive(Drop)]
-pub enum Use {
-    Ready(File),
-    NotOpened(Error),
-    NotRead(Error),
-    NotMade(Error),
+// What is done with the file.
+#[derive(Clone, Copy, Debug, PartialEq, Eq)]
+pub enum Step {
+    Open,
+    Read,
+    Make,
+    Write,
+    Sync,
 }
+
+// What is said of a file with which it could not be done.
+impl fmt::Display for Step {
+    fn fmt<W: fmt::Write>(&self, f: &mut fmt::Formatter<W>) -> fmt::Result {
+        f.write_str(match self {
+            Step::Open => "opened",
+            Step::Read => "read",
+            Step::Make => "made",
+            Step::Write => "written",
+            Step::Sync => "synced",
+        })
+    }
+}
+
+// What could not be done with the file, and why.
+#[derive(Clone, Copy)]
+pub struct Fault {
+    pub step: Step,
+    pub why: Error,
+}
+
+impl Step {
+    fn failed(self, why: Error) -> Fault {
+        Fault { step: self, why }
+    }
+}
+
+// ---- an existing file
 
 // A file, and how many bytes of it were read.
 #[derive(Drop)]
 pub struct Opened {
+    pub file: File,
     pub length: usize,
-    pub usable: Use,
-}
-
-fn unusable(why: Use) -> Opened
-    ensures { result.length ≤ 0 }
-{
-    Opened {
-        length: 0,
-        usable: why,
-    }
 }
 
 // Whether the file has ended.
@@ -80,52 +100,38 @@ fn read_once(file: &mut File, journal: &mut [u8]) -> io::Result<usize>
     Ok(n)
 }
 
-fn load(opened: File, journal: &mut [u8]) -> Opened
-    ensures { result.length ≤ length journal.new }
+fn load(opened: io::Result<File>, journal: &mut [u8]) -> Result<Opened, Fault>
+    ensures { IfOk result (λ o. o.length ≤ length journal.new) }
 {
-    let mut file = opened;
-    match read_once(&mut file, journal) {
-        Ok(length) => Opened {
-            length,
-            usable: Use::Ready(file),
-        },
-        Err(why) => unusable(Use::NotRead(why)),
-    }
-}
-
-fn read_in(opened: io::Result<File>, journal: &mut [u8]) -> Opened
-    ensures { result.length ≤ length journal.new }
-{
-    match opened {
-        Ok(file) => load(file, journal),
-        Err(why) => unusable(Use::NotOpened(why)),
-    }
+    let mut file = opened.map_err(|why| Step::Open.failed(why))?;
+    let length = read_once(&mut file, journal).map_err(|why| Step::Read.failed(why))?;
+    Ok(Opened { file, length })
 }
 
 // Opens the journal at a path for changes.
-pub fn open<R: Files<File = File>>(rt: &R, path: &[u8], journal: &mut [u8]) -> Opened
-    ensures { result.length ≤ length journal.new }
+pub fn open<R: Files<File = File>>(rt: &R, path: &[u8], journal: &mut [u8]) -> Result<Opened, Fault>
+    ensures { IfOk result (λ o. o.length ≤ length journal.new) }
 {
-    read_in(paths::opened_to_change(rt, path), journal)
+    load(paths::opened_to_change(rt, path), journal)
 }
 
 // Opens the journal at a path for reading alone.
-pub fn open_to_read<R: Files<File = File>>(rt: &R, path: &[u8], journal: &mut [u8]) -> Opened
-    ensures { result.length ≤ length journal.new }
+pub fn open_to_read<R: Files<File = File>>(
+    rt: &R,
+    path: &[u8],
+    journal: &mut [u8],
+) -> Result<Opened, Fault>
+    ensures { IfOk result (λ o. o.length ≤ length journal.new) }
 {
-    read_in(paths::opened_to_read(rt, path), journal)
+    load(paths::opened_to_read(rt, path), journal)
 }
 
 // Puts a text into the front of a buffer, as much of it as there is room for: how many bytes that are.
 fn put_text(text: &str, room: &mut [u8]) -> usize
     ensures { result ≤ length room.new }
 {
-    let bytes = text.as_bytes();
-    let mut n = 0;
-    while n < bytes.len() && n < room.len() {
-        room[n] = bytes[n];
-        n += 1;
-    }
+    let n = text.len().min(room.len());
+    room[..n].copy_from_slice(&text.as_bytes()[..n]);
     n
 }
 
@@ -149,41 +155,27 @@ pub fn resolve<R: Files<File = File> + AllocGlobal>(
     rt: &R,
     path: &[u8],
     real: &mut [u8],
-) -> io::Result<usize>
+) -> Result<usize, Fault>
     ensures { IfOk result (λ n. n ≤ length real.new) }
 {
-    let file = paths::opened_to_change(rt, path)?;
-    link_of(rt, &file, real)
+    let file = paths::opened_to_change(rt, path).map_err(|why| Step::Open.failed(why))?;
+    link_of(rt, &file, real).map_err(|why| Step::Open.failed(why))
 }
 
 // ---- a new file
 
-// Where a path's last part starts.
-fn last_part(path: &[u8]) -> usize
-    ensures { result ≤ length path.now }
-{
-    let mut i = path.len();
-    while 0 < i {
-        if path[i - 1] == 47 {
-            return i;
-        }
-        i -= 1;
+// The folder that a path leads into.
+fn folder_of(path: &[u8]) -> &[u8] {
+    match path.iter().rposition(|b| *b == b'/') {
+        Some(i) => &path[..i + 1],
+        None => b".",
     }
-    0
-}
-
-fn sync_folder<R: Files<File = File>>(rt: &R, folder: &[u8]) -> io::Result<()> {
-    let file = paths::opened_to_read(rt, folder)?;
-    file.sync_all()
 }
 
 // Sees the file's name on the disk: its folder is synced.
 fn name_kept<R: Files<File = File>>(rt: &R, path: &[u8]) -> io::Result<()> {
-    let n = last_part(path);
-    if n == 0 {
-        return sync_folder(rt, b".");
-    }
-    sync_folder(rt, &path[0..n])
+    let folder = paths::opened_to_read(rt, folder_of(path))?;
+    folder.sync_all()
 }
 
 // Zeros into a new file, which belongs to its maker alone, seen on the disk with its name.
@@ -201,33 +193,21 @@ fn settle<R: Files<File = File>>(
 
 // Makes the journal at a path, of these zeros. What is there already, a link too, is never replaced; what could not be made whole is
 // removed.
-pub fn make<R: Files<File = File>>(rt: &R, path: &[u8], zeros: &[u8]) -> Opened
-    ensures { result.length ≤ length zeros.now }
+pub fn make<R: Files<File = File>>(rt: &R, path: &[u8], zeros: &[u8]) -> Result<Opened, Fault>
+    ensures { IfOk result (λ o. o.length ≤ length zeros.now) }
 {
-    let mut file = match paths::created(rt, path) {
-        Ok(file) => file,
-        Err(why) => return unusable(Use::NotMade(why)),
-    };
-    match settle(rt, &mut file, path, zeros) {
-        Ok(()) => Opened {
-            length: zeros.len(),
-            usable: Use::Ready(file),
-        },
-        Err(why) => {
-            let _ = paths::removed(rt, path);
-            unusable(Use::NotMade(why))
-        }
+    let mut file = paths::created(rt, path).map_err(|why| Step::Make.failed(why))?;
+    if let Err(why) = settle(rt, &mut file, path, zeros) {
+        let _ = paths::removed(rt, path);
+        return Err(Step::Make.failed(why));
     }
+    Ok(Opened {
+        file,
+        length: zeros.len(),
+    })
 }
 
 // ---- changes
-
-fn least(a: usize, b: usize) -> usize
-    requires { (0 < a) × (0 < b) }
-    ensures { (result ≤ a) × (result ≤ b) × (0 < result) }
-{
-    if a < b { a } else { b }
-}
 
 // The slot after n of a ring of n slots is the first.
 fn round(k: usize, n: usize) -> usize
@@ -242,44 +222,30 @@ fn run_of(k: usize, left: usize, n: usize) -> usize
     requires { (k < n) × (0 < left) }
     ensures { (0 < result) × (result ≤ left) × (k + result ≤ n) × (k % 16 + result ≤ 16) }
 {
-    least(least(16 - k % 16, n - k), left)
-}
-
-// Whether a change is on the disk, or what could not be done, and why.
-#[derive(Clone, Copy)]
-pub enum Stored {
-    Synced,
-    NotWritten(Error),
-    NotSynced(Error),
+    (16 - k % 16).min(n - k).min(left)
 }
 
 // Writes bytes in place, and sees them on the disk.
-fn put(file: &File, at: usize, bytes: &[u8]) -> Stored
+fn put(file: &File, at: usize, bytes: &[u8]) -> Result<(), Fault>
     requires { at ≤ 65536 }
 {
     match file.write_at(bytes, at as u64) {
-        Ok(n) => {
-            if n != bytes.len() {
-                return Stored::NotWritten(Error::from(ErrorKind::WriteZero));
-            }
-        }
-        Err(why) => return Stored::NotWritten(why),
+        Ok(n) if n == bytes.len() => {}
+        Ok(_) => return Err(Step::Write.failed(Error::from(ErrorKind::WriteZero))),
+        Err(why) => return Err(Step::Write.failed(why)),
     }
-    match file.sync_all() {
-        Ok(()) => Stored::Synced,
-        Err(why) => Stored::NotSynced(why),
-    }
+    file.sync_all().map_err(|why| Step::Sync.failed(why))
 }
 
 // Writes back what was read of a well formed journal, and sees it on the disk. What is read may not be on the disk: a process may have
 // been killed between a write and its sync, and after a sync that failed the system may hold for clean what it couldn't write. At most
 // one sector of the disk differs then from what was read, since each write is synced before the next, and no process writes after a
 // failure. So a cut at this moment leaves that sector as it was or as it was read, and either way a well formed journal.
-pub fn write_back(file: &File, journal: &[u8]) -> Stored {
+pub fn write_back(file: &File, journal: &[u8]) -> Result<(), Fault> {
     put(file, 0, journal)
 }
 
-fn put_slots(file: &File, journal: &[u8], k: usize, n: usize) -> Stored
+fn put_slots(file: &File, journal: &[u8], k: usize, n: usize) -> Result<(), Fault>
     requires { (32 * (k + n) ≤ length journal.now) × (k ≤ 2048) }
 {
     let at = 32 * k;
@@ -290,25 +256,18 @@ fn put_slots(file: &File, journal: &[u8], k: usize, n: usize) -> Stored
 // Writes the records of `count` serials from `first` on, in the order of serials and no more than a sector at a time: each
 // sector is on the disk before the next is written, so that a cut leaves the first of them changed and the others as they were.
 // A journal of a wrong length is never touched.
-pub fn write(file: &File, journal: &[u8], first: u32, count: u32) -> Stored {
-    if journal.len() < 32 {
-        return Stored::NotWritten(Error::from(ErrorKind::InvalidInput));
-    }
-    if 65536 < journal.len() {
-        return Stored::NotWritten(Error::from(ErrorKind::InvalidInput));
+pub fn write(file: &File, journal: &[u8], first: u32, count: u32) -> Result<(), Fault> {
+    if journal.len() < 32 || 65536 < journal.len() {
+        return Err(Step::Write.failed(Error::from(ErrorKind::InvalidInput)));
     }
     let n = journal.len() / 32;
     let mut k = (first as usize + n - 1) % n;
     let mut left = count as usize;
     while 0 < left {
         let r = run_of(k, left, n);
-        let stored = put_slots(file, journal, k, r);
-        match stored {
-            Stored::Synced => {}
-            _ => return stored,
-        }
+        put_slots(file, journal, k, r)?;
         k = round(k + r, n);
         left -= r;
     }
-    Stored::Synced
+    Ok(())
 }

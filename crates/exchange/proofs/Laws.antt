@@ -24,13 +24,13 @@ use Rattle.channel.proofs.Laws.{agree}
 use Rattle.channel.proofs.CatchUp.{course_append}
 use Rattle.exchange.specs.Exchange.{State, as_state, cleared, turn_at, message_at, was_sent, Runs, no_record, one_more, RunsAll, Exchanges, Agreed, Agrees}
 use Rattle.exchange.specs.declared.Sums.{Sums}
-use Rattle.exchange.specs.declared.Exchanged.{Exchanged}
-use Rattle.exchange.specs.declared.Exchanged.TheVariants.{Ran}
+use Rattle.std.proofs.Common.{Result, Ok}
+use Rattle.plays.specs.declared.Unplayed.{Unplayed}
 use Rattle.exchange.proofs.One as one
 use Rattle.exchange.proofs.Linked.{world_of, Linked, own_turn, turn_follows}
 
 -- any two outcomes that running a script allows are equal: answer, scratch, journal and air
-pub run_one : (s : List ℕ) (terms : Terms) (t j a : List ℕ) (l : Ledger) (r q : Exchanged) (u v k m b c : List ℕ)
+pub run_one : (s : List ℕ) (terms : Terms) (t j a : List ℕ) (l : Ledger) (r q : Result Sums Unplayed) (u v k m b c : List ℕ)
     → Exchanges s terms t j a l (script_rule s) r u k b → Exchanges s terms t j a l (script_rule s) q v m c
     → (r ≡ q) × (u ≡ v) × (k ≡ m) × (b ≡ c)
 run_one s terms t j a l = one.run_one s terms t j a l (script_rule s)
@@ -138,7 +138,7 @@ run_agrees s terms t a n r u k b least most w =
 
 -- whatever the journal and the ledger are, where they are empty and fresh
 pub agreed : (s : List ℕ) (terms : Terms) (t j a : List ℕ) (l : Ledger) (r : Sums) (u k b : List ℕ) → RunsAll s terms (cleared t j a l) r u k b
-    → Agrees s terms t j a l (Ran r) u k b
+    → Agrees s terms t j a l (Ok r) u k b
 agreed s terms t j a l r u k b w n least most ej el =
     run_agrees s terms t a n r u k b least most
     (subst (λ (x : Ledger). RunsAll s terms (cleared t (replicate (32 * n) 0) a x) r u k b) el

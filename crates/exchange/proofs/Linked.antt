@@ -1,5 +1,6 @@
 -- What a script makes happen is a course of events between box and host: every message in the air was sent or isn't a held record, and every answer
 -- that arrives was given.
+use Rattle.std.proofs.Common.{Option, Some, None}
 use Prim.Native.Nat.{ℕ, zero, suc, ◌≤◌, ◌<◌, ◌+◌, ◌-◌, ◌*◌, ◌/◌}
 use mathlib.Core.Path.{◌≡◌, refl, sym, ap, ◌∙◌, subst, subst⁻¹}
 use mathlib.Core.Bool.{Bool, true, false, cond, ◌||◌}
@@ -20,8 +21,6 @@ use Rattle.reasons.proofs.Laws.{passed}
 use Rattle.slots.specs.Record.{is_held}
 use Rattle.slots.specs.Journal.{slots_of, place, state_of, NewestIs}
 use Rattle.slots.proofs.Ranges.{differ}
-use Rattle.slots.specs.declared.Newest.{Newest}
-use Rattle.slots.specs.declared.Newest.TheVariants.{Malformed, Is}
 use Rattle.held.specs.Held.{record_at, held_after, held_list, low_of}
 use Rattle.held.specs.Rules.{show_rule, held_in}
 use Rattle.held.proofs.Rule.{shown_in}
@@ -31,8 +30,8 @@ use Rattle.plays.specs.Script.{kind_at, pan_at, label_at, amount_at, serial_at, 
 use Rattle.layout.specs.declared.Track.TheVariants.{Two, One}
 use Rattle.ledger.specs.Ledger.{HeldRecord, wants, Takes}
 use Rattle.ledger.specs.declared.Ledger.{Ledger}
-use Rattle.ledger.specs.declared.Taken.{Taken}
-use Rattle.ledger.specs.declared.Taken.TheVariants.{Now, Refused}
+use Rattle.reasons.specs.declared.Reason.{Reason}
+use Rattle.std.proofs.Common.{Result, Ok, Err}
 use Rattle.ledger.proofs.Laws.{Did, took, left_alone, heard}
 use Rattle.channel.specs.Channel.{World, answering, Act, Own, Event, box_calls, box_sends, host_hears, host_hears_noise, box_hears}
 use Rattle.channel.specs.Channel.{Course, nothing_yet, and_then}
@@ -123,13 +122,13 @@ among_after j n low (suc m) s l h e =
 -- what a serial that is found says: a journal in form, and the record of it among the held ones
 record Found (j : List ℕ) (at : ℕ) : Type 0 where
   pub newest : ℕ
-  pub is : NewestIs j (Is newest)
+  pub is : NewestIs j (Some newest)
   pub among : Among (take 32 (drop at j)) (held_list j newest)
 
-found : (j : List ℕ) (m : Newest) (s at : ℕ) → NewestIs j m → gives at ≡ show_rule m j s → Found j at
+found : (j : List ℕ) (m : Option ℕ) (s at : ℕ) → NewestIs j m → gives at ≡ show_rule m j s → Found j at
 unfolding show_rule held_in record_at
-found j Malformed s at i e = let z : ◌≡◌ {A = ℕ} 0 1 = cc in absurd (omega arith)
-found j (Is b) s at f e =
+found j None s at i e = let z : ◌≡◌ {A = ℕ} 0 1 = cc in absurd (omega arith)
+found j (Some b) s at f e =
     let a = passed (held_in j b s) 20 (gives (place (slots_of j) s)) at (sym e) in
     let both = both_true (within (low_of j b + 1) b s) (is_held (state_of j (slots_of j) s)) a.0 in
     let r = inside_is (low_of j b + 1) b s both.0 in
@@ -202,7 +201,7 @@ module _ (v : State) (k r : List (List ℕ)) (a : List ℕ) (w : Linked v r a) w
   answer_follows t s ds x false e m = as_left m.none m.is (stays v k r a w)
 
   -- a record is sent into the air, or lost at once
-  posted_follows : (b place : ℕ) (q : List ℕ) → length q ≡ 32 → NewestIs v.journal (Is b) → Among q (held_list v.journal b)
+  posted_follows : (b place : ℕ) (q : List ℕ) → length q ≡ 32 → NewestIs v.journal (Some b) → Among q (held_list v.journal b)
       → Follows v k r a [] (sending v (posted v.air place q))
   posted_follows b place q long is among =
       let i = among_nth q (held_list v.journal b) among in
@@ -220,7 +219,7 @@ module _ (v : State) (k r : List (List ℕ)) (a : List ℕ) (w : Linked v r a) w
         };
       }
 
-  send_follows : (s place : ℕ) (ds : List Done) (x : State) (m : Newest) → NewestIs v.journal m
+  send_follows : (s place : ℕ) (ds : List Done) (x : State) (m : Option ℕ) → NewestIs v.journal m
       → Quiet ds x (sending v (after (show_rule m v.journal s) v.air (λ at. posted v.air place (take 32 (drop at v.journal)))))
       → Follows v k r a ds x
   send_follows s place ds x m is q = as_left q.none q.is (by (show_rule m v.journal s) refl)
@@ -239,7 +238,7 @@ module _ (v : State) (k r : List (List ℕ)) (a : List ℕ) (w : Linked v r a) w
   told_before s n h = w.told s (ap (λ (t : Bool). cond t v.zero_sent (leb s v.ledger.taken)) (ne_eqb s 0 n) ∙ le-leb s v.ledger.taken h)
 
   -- the answers given once the host heard a message so: those given before, and the last serial taken
-  told_now : (message : List ℕ) (l : Ledger) → Takes v.ledger message (Now l) → (s : ℕ) → was_sent (hearing v (Now l)) s ≡ true → Among s (l.taken ∷ a)
+  told_now : (message : List ℕ) (l : Ledger) → Takes v.ledger message (Ok l) → (s : ℕ) → was_sent (hearing v (Ok l)) s ≡ true → Among s (l.taken ∷ a)
   told_now message l t s e = by (ℕ_discrete s 0)
     where
       -- of 0
@@ -273,19 +272,19 @@ module _ (v : State) (k r : List (List ℕ)) (a : List ℕ) (w : Linked v r a) w
       message = message_at v.air place
 
       -- what was sent, or noise
-      event : (q : Taken) → Takes v.ledger message q → (b : Act) × Event (world_of v k r a) b [] (answering (world_of v k r a) message q)
+      event : (q : Result Ledger Reason) → Takes v.ledger message q → (b : Act) × Event (world_of v k r a) b [] (answering (world_of v k r a) message q)
       event q t = ⊎_elim (λ m. (_, host_hears q (among_nth message r m).1 t)) (λ n. (_, host_hears_noise q n t)) (w.air place)
 
-      by : (q : Taken) → Takes v.ledger message q → Follows v k r a [] (hearing v q)
-      by (Now l) t = record {
-        acts = (event (Now l) t).0 ∷ [];
+      by : (q : Result Ledger Reason) → Takes v.ledger message q → Follows v k r a [] (hearing v q)
+      by (Ok l) t = record {
+        acts = (event (Ok l) t).0 ∷ [];
         taken = cond (wants v.ledger message) (k ++ (message ∷ [])) k;
         records = r;
         answers = l.taken ∷ a;
-        course = and_then nothing_yet (event (Now l) t).1;
+        course = and_then nothing_yet (event (Ok l) t).1;
         linked = record { air = w.air; told = told_now message l t };
       }
-      by (Refused y) t = stays v k r a w
+      by (Err y) t = stays v k r a w
 
   pub turn_follows : (t : ℕ) (n : Turn) (ds : List Done) (x : State) → OwnTurn n → Turns v t n ds x → Follows v k r a ds x
   turn_follows t (makes c) ds x o m = call_follows t c ds x o m

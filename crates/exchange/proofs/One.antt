@@ -15,8 +15,9 @@ use Rattle.ledger.proofs.Laws.{take_one}
 use Rattle.channel.specs.Channel.{made}
 use Rattle.exchange.specs.Exchange.{State, message_at, was_sent, hearing, calling, Turn, makes, send, deliver, answer, turn_at}
 use Rattle.exchange.specs.Exchange.{Makes, Quiet, Answered, Turns, Runs, no_record, one_more, Exchanges, ran, not_whole, too_long}
-use Rattle.exchange.specs.declared.Exchanged.{Exchanged}
-use Rattle.exchange.specs.declared.Exchanged.TheVariants.{Ran}
+use Rattle.std.proofs.Common.{Result, Ok}
+use Rattle.exchange.specs.declared.Sums.{Sums}
+use Rattle.plays.specs.declared.Unplayed.{Unplayed}
 
 quiet_one : {ds es : List Done} {w x u v : State} → u ≡ v → Quiet ds w u → Quiet es x v → (ds ≡ es) × (w ≡ x)
 quiet_one e a b = (a.none ∙ sym b.none, a.is ∙ e ∙ sym b.is)
@@ -49,13 +50,13 @@ runs_one {s} {terms} {v} (one_more {i = i} {w = w} {x = x} es a p) (one_more {x 
     ((λ k. o.0 k ++ u.0 k), u.1)
 
 -- any two outcomes that running a script allows are equal: answer, scratch, journal and air
-pub run_one : (s : List ℕ) (terms : Terms) (t j a : List ℕ) (l : Ledger) (o : Outcome (Unit {0})) (r q : Exchanged) (u v k m b c : List ℕ)
+pub run_one : (s : List ℕ) (terms : Terms) (t j a : List ℕ) (l : Ledger) (o : Outcome (Unit {0})) (r q : Result Sums Unplayed) (u v k m b c : List ℕ)
     → Exchanges s terms t j a l o r u k b → Exchanges s terms t j a l o q v m c → (r ≡ q) × (u ≡ v) × (k ≡ m) × (b ≡ c)
 run_one s terms t j a l o r q u v k m b c (ran {r = x} p) (ran {r = y} w) =
     let e = runs_one p.runs w.runs in
     let f : x.totals ≡ y.totals =
     totals_one w.done x.totals y.totals (subst (λ (ds : List Done). TotalsOf ds x.totals) e.0 p.totals) w.totals in (
-      (λ i. Ran (record { ledger = (e.1 i).ledger; totals = f i })),
+      (λ i. Ok (record { ledger = (e.1 i).ledger; totals = f i })),
       ap (λ (z : State). z.scratch) e.1,
       ap (λ (z : State). z.journal) e.1,
       ap (λ (z : State). z.air) e.1,

@@ -1,5 +1,5 @@
 -- A script of what happens between box and host, and what running it comes to.
-use Rattle.std.specs.Prelude.{ℕ, zero, suc, ◌+◌, ◌*◌, ◌/◌, ◌≤◌, ◌≡◌, Bool, true, false, cond, ◌||◌, List, [], ◌∷◌, ◌++◌, eqb, leb, ltb, length, take, drop, replicate}
+use Rattle.std.specs.Prelude.{ℕ, zero, suc, ◌+◌, ◌*◌, ◌/◌, ◌≤◌, ◌≡◌, Bool, true, false, cond, ◌||◌, List, [], ◌∷◌, ◌++◌, eqb, leb, ltb, length, take, drop, replicate, Result, Ok, Err}
 use Rattle.text.specs.Numbers.{u32_at, put}
 use Rattle.reasons.specs.Reasons.{Outcome, gives, refuses, after}
 use Rattle.slots.specs.Views.{Seen}
@@ -9,12 +9,11 @@ use Rattle.history.specs.History.{Call, release, aside, AnswerTo, Does, Done}
 use Rattle.plays.specs.Script.{kind_at, serial_at, clock_at, call_at, scratch_left, TotalsOf}
 use Rattle.ledger.specs.Ledger.{opened, Takes}
 use Rattle.ledger.specs.declared.Ledger.{Ledger}
-use Rattle.ledger.specs.declared.Taken.{Taken}
-use Rattle.ledger.specs.declared.Taken.TheVariants.{Now, Refused}
+use Rattle.reasons.specs.declared.Reason.{Reason}
+use Rattle.plays.specs.declared.Unplayed.{Unplayed}
+use Rattle.plays.specs.declared.Unplayed.TheVariants.{NotWhole, TooLong}
 use Rattle.channel.specs.Channel.{World, start, Act, made, Course, Agree}
 use Rattle.exchange.specs.declared.Sums.{Sums}
-use Rattle.exchange.specs.declared.Exchanged.{Exchanged}
-use Rattle.exchange.specs.declared.Exchanged.TheVariants.{Ran, NotWhole, TooLong}
 
 -- ---- the script
 
@@ -73,9 +72,9 @@ abbrev pub was_sent : State → ℕ → Bool
 was_sent v s = cond (eqb s 0) v.zero_sent (leb s v.ledger.taken)
 
 -- after the host heard a message so
-abbrev pub hearing : State → Taken → State
-hearing v (Now l) = as_state v.scratch v.journal v.air l (v.zero_sent || eqb l.taken 0)
-hearing v (Refused x) = v
+abbrev pub hearing : State → Result Ledger Reason → State
+hearing v (Ok l) = as_state v.scratch v.journal v.air l (v.zero_sent || eqb l.taken 0)
+hearing v (Err x) = v
 
 -- after a record was sent
 abbrev pub sending : State → List ℕ → State
@@ -102,7 +101,7 @@ pub record Quiet (ds : List Done) (w x : State) : Type 0 where
 
 -- the host hears a message
 pub record Hears (v : State) (message : List ℕ) (ds : List Done) (w : State) : Type 0 where
-  pub answer : Taken
+  pub answer : Result Ledger Reason
   pub takes : Takes v.ledger message answer
   pub quiet : Quiet ds w (hearing v answer)
 
@@ -135,10 +134,10 @@ pub record RunsAll (s : List ℕ) (terms : Terms) (v : State) (r : Sums) (u k b 
   pub totals : TotalsOf done r.totals
 
 -- what running a script allows, by `script_rule` for its length; a refusal changes nothing
-pub data Exchanges (s : List ℕ) (terms : Terms) (t j a : List ℕ) (l : Ledger) : Outcome (Unit {0}) → Exchanged → List ℕ → List ℕ → List ℕ → Type 0 where
-  ran : {r : Sums} {u k b : List ℕ} → RunsAll s terms (cleared t j a l) r u k b → Exchanges s terms t j a l (gives tt) (Ran r) u k b
-  not_whole : Exchanges s terms t j a l (refuses 6) NotWhole t j a
-  too_long : Exchanges s terms t j a l (refuses 99) TooLong t j a
+pub data Exchanges (s : List ℕ) (terms : Terms) (t j a : List ℕ) (l : Ledger) : Outcome (Unit {0}) → Result Sums Unplayed → List ℕ → List ℕ → List ℕ → Type 0 where
+  ran : {r : Sums} {u k b : List ℕ} → RunsAll s terms (cleared t j a l) r u k b → Exchanges s terms t j a l (gives tt) (Ok r) u k b
+  not_whole : Exchanges s terms t j a l (refuses 6) (Err NotWhole) t j a
+  too_long : Exchanges s terms t j a l (refuses 99) (Err TooLong) t j a
 
 -- from an empty journal of n slots and a fresh ledger: the calls that the script made are those of a course of events between box and host, which left
 -- this journal and this ledger, so that box and host agree; in numbers, the box has released no more than the host has taken, and the host has taken
@@ -154,7 +153,6 @@ pub record Agreed (s : List ℕ) (terms : Terms) (t a : List ℕ) (n : ℕ) (r :
   pub counts : (r.totals.released ≤ r.ledger.taken) × (r.ledger.taken ≤ r.totals.booked)
   pub sums : (r.totals.remitted ≤ r.ledger.total) × (r.ledger.total ≤ r.totals.takings)
 
-abbrev pub Agrees : List ℕ → Terms → List ℕ → List ℕ → List ℕ → Ledger → Exchanged → List ℕ → List ℕ → List ℕ → Type 0
-Agrees s terms t j a l (Ran r) u k b = (n : ℕ) → 1 ≤ n → n ≤ 2048 → j ≡ replicate (32 * n) 0 → l ≡ opened → Agreed s terms t a n r u k b
-Agrees s terms t j a l NotWhole u k b = Unit {0}
-Agrees s terms t j a l TooLong u k b = Unit {0}
+abbrev pub Agrees : List ℕ → Terms → List ℕ → List ℕ → List ℕ → Ledger → Result Sums Unplayed → List ℕ → List ℕ → List ℕ → Type 0
+Agrees s terms t j a l (Ok r) u k b = (n : ℕ) → 1 ≤ n → n ≤ 2048 → j ≡ replicate (32 * n) 0 → l ≡ opened → Agreed s terms t a n r u k b
+Agrees s terms t j a l (Err x) u k b = Unit {0}

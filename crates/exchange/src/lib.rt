@@ -2,18 +2,18 @@
 // host agree then, whatever the script lets the channel lose, repeat or bring out of order.
 #![tactic(auto)]
 
-ghost use Rattle.std.specs.Prelude.{◌≡◌, false, cond, ◌||◌, List, ℕ, ◌+◌, ◌/◌, ◌%◌, ◌≤◌, eqb, leb, length, take, drop, replicate};
+ghost use Rattle.std.specs.Prelude.{◌≡◌, cond, List, ℕ, eqb, leb, length, take, drop};
 ghost use Rattle.reasons.specs.Reasons.{after};
 ghost use Rattle.slots.specs.Views.{Seen};
 ghost use Rattle.held.specs.Rules.{show_rule};
-ghost use Rattle.payer.specs.Payer.{terms};
-ghost use Rattle.plays.specs.Script.{serial_at, clock_at, Nothing, PlaysOne, script_rule};
-ghost use Rattle.exchange.specs.Exchange.{as_state, deliver, answer, own_at, turn_at, posted, RunsAll, Exchanges, Agrees};
-ghost use Rattle.exchange.specs.Inner.{Took};
+ghost use Rattle.payer.specs.Payer.{terms_of};
+ghost use Rattle.plays.specs.Script.{clock_at, serial_at, PlaysOne, script_rule};
+ghost use Rattle.exchange.specs.Exchange.{answer, own_at, turn_at, posted, Exchanges, Agrees};
+ghost use Rattle.exchange.specs.Inner.{state, Heard, Took};
 
-use held::Shown;
-use ledger::{Ledger, Taken};
-use plays::{Totals, add, counted, play, play_release};
+use ledger::Ledger;
+use payer::Terms;
+use plays::{Totals, Unplayed};
 
 // What it came to: the host's ledger, and the totals of the box's calls.
 #[derive(Clone, Copy)]
@@ -22,44 +22,7 @@ pub struct Sums {
     pub totals: Totals,
 }
 
-// The sums, or why no record was run: the script is no whole number of records, or it has too many for the totals.
-#[derive(Clone, Copy)]
-pub enum Exchanged {
-    Ran(Sums),
-    NotWhole,
-    TooLong,
-}
-
-// After one record: the host's ledger, whether it has answered 0 by now, and the totals of that record's call.
-#[derive(Clone, Copy)]
-struct Step {
-    ledger: Ledger,
-    zero: bool,
-    totals: Totals,
-}
-
-// After one at which the box makes no call.
-fn quiet(ledger: Ledger, zero: bool) -> Step
-    ensures { (result.ledger ≡ ledger) × (result.zero ≡ zero) × Nothing 0 0 result.totals }
-{
-    Step {
-        ledger,
-        zero,
-        totals: counted(0, 0, 0, 0),
-    }
-}
-
 // ---- the air
-
-fn clear(air: &mut [u8])
-    ensures { air.new ≡ replicate (length air.old) 0 }
-{
-    let mut i = 0;
-    while i < air.len() {
-        air[i] = 0;
-        i += 1;
-    }
-}
 
 // Puts a record into a place of the air, if there is such a place.
 fn post(air: &mut [u8], place: usize, message: &[u8])
@@ -72,211 +35,138 @@ fn post(air: &mut [u8], place: usize, message: &[u8])
 }
 
 // The box sends the record of a serial, if it is held.
-fn send(journal: &[u8], serial: u32, air: &mut [u8], place: u32)
+fn send(journal: &[u8], serial: u32, air: &mut [u8], place: usize)
     ensures { Seen journal.now (λ m. air.new ≡ after (show_rule m journal.now serial) air.old
         (λ at. posted air.old place (take 32 (drop at journal.now)))) }
 {
-    match held::find(journal, serial) {
-        Shown::Refused(_) => {}
-        Shown::At(at) => post(air, place as usize, &journal[at..at + 32]),
+    if let Ok(at) = held::find(journal, serial) {
+        post(air, place, &journal[at..at + 32]);
     }
 }
 
 // ---- the host
 
-// Whether the host has answered 0, now that it has answered with the last serial taken.
-fn answers_zero(zero: bool, taken: u32) -> bool
-    ensures { result ≡ (zero || eqb taken 0) }
-{
-    if zero {
-        return true;
-    }
-    taken == 0
+// The host: its ledger, and whether it has answered 0 by now.
+#[derive(Clone, Copy)]
+struct Host {
+    ledger: Ledger,
+    zero: bool,
 }
 
-// The host hears what stands in a place of the air.
-fn hear(ledger: Ledger, zero: bool, air: &[u8], place: u32) -> Step
-    ensures { (t j : List ℕ) (clock : ℕ)
-        → Took (as_state t j air.now ledger zero) clock (deliver place) result t j air.now }
-{
-    let message = text::piece(air, 32 * place as usize, 32);
-    match ledger::take(ledger, message) {
-        Taken::Refused(_) => quiet(ledger, zero),
-        Taken::Now(l) => quiet(l, answers_zero(zero, l.taken)),
+impl Host {
+    // It hears a message, and answers with the last serial taken, unless it refuses the message.
+    fn hear(&mut self, message: &[u8])
+        ensures { Heard self.old message.now self.new }
+    {
+        if let Ok(ledger) = ledger::take(self.ledger, message) {
+            self.zero = self.zero || ledger.taken == 0;
+            self.ledger = ledger;
+        }
     }
-}
 
-// Whether the host has answered with a serial.
-fn was_sent(ledger: Ledger, zero: bool, s: u32) -> bool
-    ensures { result ≡ cond (eqb s 0) zero (leb s ledger.taken) }
-{
-    if s == 0 {
-        return zero;
-    }
-    s <= ledger.taken
-}
-
-// An answer arrives at the box, if it was sent.
-fn answer(script: &[u8], at: usize, journal: &mut [u8], ledger: Ledger, zero: bool) -> Step
-    requires { at + 128 ≤ length script.now }
-    ensures { (t a : List ℕ) → Took (as_state t journal.old a ledger zero)
-        (clock_at script.now at) (answer (serial_at script.now at)) result t journal.new a }
-{
-    let s = text::u32_at(script, at + 12);
-    if !was_sent(ledger, zero, s) {
-        return quiet(ledger, zero);
-    }
-    Step {
-        ledger,
-        zero,
-        totals: play_release(script, at, journal),
+    // Whether it has answered with a serial.
+    fn has_answered(&self, serial: u32) -> bool
+        ensures { result ≡ cond (eqb serial 0) self.now.zero (leb serial self.now.ledger.taken) }
+    {
+        if serial == 0 {
+            return self.zero;
+        }
+        serial <= self.ledger.taken
     }
 }
 
 // ---- one record
 
-// Makes the box's own call of the record at `at`: a release that the script asks for is passed over.
-fn own_call(
-    script: &[u8],
-    at: usize,
-    site: &[u8],
-    acquirer: &[u8],
-    hot: &[u64],
-    digits: u32,
-    scratch: &mut [u8],
-    journal: &mut [u8],
-) -> Totals
-    requires { at + 128 ≤ length script.now }
-    ensures { PlaysOne (own_at script.now
-        (terms site.now acquirer.now hot.now digits) scratch.old at)
-        (clock_at script.now at) scratch.old journal.old result scratch.new journal.new }
+// What the first byte of a record asks for; any other is a call of the box.
+const SEND: u8 = 5;
+
+const DELIVER: u8 = 6;
+
+const ANSWER: u8 = 7;
+
+// A release that the script asks for: it is passed over.
+const RELEASE: u8 = 2;
+
+// An answer arrives at the box, if it was sent.
+fn answer(r: &[u8; 128], journal: &mut [u8], host: &Host) -> Totals
+    ensures { (t a : List ℕ) → Took (state t journal.old a host.now) (clock_at r.now 0)
+        (answer (serial_at r.now 0)) result (state t journal.new a host.now) }
 {
-    if script[at] == 2 {
-        return counted(0, 0, 0, 1);
+    let serial = text::u32_at(r, 12);
+    if !host.has_answered(serial) {
+        return Totals::default();
     }
-    play(script, at, site, acquirer, hot, digits, scratch, journal)
+    plays::play_release(r, journal)
 }
 
-// Takes the turn of the record at `at`.
+// Makes the box's own call: a release that the script asks for is passed over.
+fn own_call(r: &[u8; 128], terms: Terms, scratch: &mut [u8], journal: &mut [u8]) -> Totals
+    ensures { PlaysOne (own_at r.now (terms_of terms.entry) scratch.old 0) (clock_at r.now 0)
+        scratch.old journal.old result scratch.new journal.new }
+{
+    if r[0] == RELEASE {
+        return plays::one_skipped();
+    }
+    plays::play(r, terms, scratch, journal)
+}
+
+// Takes the turn of a record.
 fn turn(
-    script: &[u8],
-    at: usize,
-    site: &[u8],
-    acquirer: &[u8],
-    hot: &[u64],
-    digits: u32,
+    r: &[u8; 128],
+    terms: Terms,
     scratch: &mut [u8],
     journal: &mut [u8],
     air: &mut [u8],
-    ledger: Ledger,
-    zero: bool,
-) -> Step
-    requires { at + 128 ≤ length script.now }
-    ensures { Took (as_state scratch.old journal.old air.old ledger zero) (clock_at script.now at)
-        (turn_at script.now (terms site.now acquirer.now hot.now digits)
-        scratch.old at)
-        result scratch.new journal.new air.new }
+    host: &mut Host,
+) -> Totals
+    ensures { Took (state scratch.old journal.old air.old host.old) (clock_at r.now 0)
+        (turn_at r.now (terms_of terms.entry) scratch.old 0)
+        result (state scratch.new journal.new air.new host.new) }
 {
-    let kind = script[at];
-    if kind == 5 {
-        send(
-            journal,
-            text::u32_at(script, at + 12),
-            air,
-            text::u32_at(script, at + 16),
-        );
-        return quiet(ledger, zero);
-    }
-    if kind == 6 {
-        return hear(ledger, zero, air, text::u32_at(script, at + 16));
-    }
-    if kind == 7 {
-        return answer(script, at, journal, ledger, zero);
-    }
-    Step {
-        ledger,
-        zero,
-        totals: own_call(script, at, site, acquirer, hot, digits, scratch, journal),
+    let place = text::u32_at(r, 16) as usize;
+    match r[0] {
+        SEND => {
+            send(journal, text::u32_at(r, 12), air, place);
+            Totals::default()
+        }
+        DELIVER => {
+            host.hear(text::piece(air, 32 * place, 32));
+            Totals::default()
+        }
+        ANSWER => answer(r, journal, host),
+        _ => own_call(r, terms, scratch, journal),
     }
 }
 
 // ---- all of them
 
-fn run_all(
-    script: &[u8],
-    site: &[u8],
-    acquirer: &[u8],
-    hot: &[u64],
-    digits: u32,
-    scratch: &mut [u8],
-    journal: &mut [u8],
-    air: &mut [u8],
-    ledger: Ledger,
-) -> Sums
-    requires { (length script.now % 128 ≡ 0) × (length script.now / 128 ≤ 1048576) }
-    ensures { RunsAll script.now (terms site.now acquirer.now hot.now digits)
-        (as_state scratch.old journal.old air.old ledger false)
-        result scratch.new journal.new air.new }
-{
-    let n = script.len() / 128;
-    let mut host = ledger;
-    let mut zero = false;
-    let mut totals = counted(0, 0, 0, 0);
-    let mut i: usize = 0;
-    while i < n {
-        let step = turn(
-            script,
-            128 * i,
-            site,
-            acquirer,
-            hot,
-            digits,
-            scratch,
-            journal,
-            air,
-            host,
-            zero,
-        );
-        host = step.ledger;
-        zero = step.zero;
-        totals = add(totals, step.totals);
-        i += 1;
-    }
-    Sums {
-        ledger: host,
-        totals,
-    }
-}
-
-// Runs a script on the lent tables, hot list, scratch and journal, with the air between the journal's box and the host of the ledger, and answers
-// what it came to.
+// Runs a script on the lent terms, scratch and journal, with the air between the journal's box and the host of the ledger, and answers what it came
+// to, or why no record was run.
 pub fn run(
     script: &[u8],
-    site: &[u8],
-    acquirer: &[u8],
-    hot: &[u64],
-    digits: u32,
+    terms: Terms,
     scratch: &mut [u8],
     journal: &mut [u8],
     air: &mut [u8],
     ledger: Ledger,
-) -> Exchanged
-    ensures exchanges { Exchanges script.now (terms site.now acquirer.now hot.now digits)
-        scratch.old journal.old air.old ledger
+) -> Result<Sums, Unplayed>
+    ensures exchanges { Exchanges script.now (terms_of terms.entry) scratch.old journal.old air.old ledger
         (script_rule script.now) result scratch.new journal.new air.new }
-    ensures agrees { Agrees script.now (terms site.now acquirer.now hot.now digits)
-        scratch.old journal.old air.old ledger
+    ensures agrees { Agrees script.now (terms_of terms.entry) scratch.old journal.old air.old ledger
         result scratch.new journal.new air.new }
 {
-    let len = script.len();
-    if len % 128 != 0 {
-        return Exchanged::NotWhole;
+    let records = plays::records_of(script)?;
+    air.fill(0);
+    let mut host = Host {
+        ledger,
+        zero: false,
+    };
+    let mut totals = Totals::default();
+    for r in records {
+        totals = plays::add(totals, turn(r, terms, scratch, journal, air, &mut host));
     }
-    if 1048576 < len / 128 {
-        return Exchanged::TooLong;
-    }
-    clear(air);
-    Exchanged::Ran(run_all(
-        script, site, acquirer, hot, digits, scratch, journal, air, ledger,
-    ))
+    Ok(Sums {
+        ledger: host.ledger,
+        totals,
+    })
 }

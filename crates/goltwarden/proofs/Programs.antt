@@ -1,21 +1,17 @@
 -- Demand 3 of programs in C, and their walks.
+use Rattle.std.proofs.Common.{Option, Some, None}
 use Prim.Native.Nat.{ℕ, ◌*◌, ◌≤◌, ◌<◌}
 use mathlib.Core.Path.{◌≡◌, refl, sym, ap, ◌∙◌}
 use mathlib.Core.Bool.{Bool, true, false}
 use mathlib.Core.List.{List, []}
 use native.Mathlib.Omega.{arith}
 use lib.ListN.{replicate}
-use Rattle.reasons.specs.Reasons.{Outcome, gives, refuses, demand, and_then, number_in}
+use Rattle.reasons.specs.Reasons.{Outcome, gives, refuses, demand, and_then, number_in, said}
 use Rattle.reasons.proofs.Laws.{gives_refuses}
 use Rattle.slots.specs.Journal.{NewestIs, SameButClocks, slots_of, place}
-use Rattle.slots.specs.declared.Newest.{Newest}
-use Rattle.slots.specs.declared.Newest.TheVariants.{Malformed, Is}
 use Rattle.slots.proofs.Views.{known}
 use Rattle.held.specs.Held.{held_list}
-use Rattle.held.specs.Rules.{tell_rule, said_shown, said_told}
-use Rattle.journal.specs.Rules.{said_booked, said_released}
-use Rattle.surveys.specs.Survey.{said_surveyed}
-use Rattle.swipe.specs.Swipe.{said_swiped}
+use Rattle.held.specs.Rules.{tell_rule}
 use Rattle.walker.specs.Walk.{held_here, held_rule, next_of}
 use Rattle.walker.specs.Steps.{walk_rule, start_rule, step_rule, Above, Onward}
 use Rattle.walker.proofs.Whole.{above_by, above_one, above_all, onward_by, onward_one, onward_all, anew}
@@ -44,24 +40,24 @@ promised_does j clock surveys x r y k w = (record { says = w.0.answer; states = 
 promised_does j clock (swipes card amount) x r y k w = (record { says = w.1.answer; scratch = y.1 }, (w.0, w.1.allowed), (w.1.handed, refl))
 
 -- one answer is heard in one way
-said_one : {Q A B : Type 0} (said : Q → Outcome A) {old : B} {new : A → B} {r s : ℕ} {y z : B} (p q : Q) → p ≡ q → Hands (said p) old new r y
-    → Hands (said q) old new s z → (r ≡ s) × (y ≡ z)
-said_one said p q e f g = hands_one f (outcome_is _ _ _ _ _ _ (ap said (sym e)) g)
+said_one : {Q A B : Type 0} (of : Q → Outcome A) {old : B} {new : A → B} {r s : ℕ} {y z : B} (p q : Q) → p ≡ q → Hands (of p) old new r y
+    → Hands (of q) old new s z → (r ≡ s) × (y ≡ z)
+said_one of p q e f g = hands_one f (outcome_is _ _ _ _ _ _ (ap of (sym e)) g)
 
 hears_one : (a : Asks) (x : Lent a) (p q : AnswerTo (call_of a x)) → SameAnswer (call_of a x) p q → (r s : ℕ) (y z : Lent a) → Hears a x p r y
     → Hears a x q s z → (r ≡ s) × (y ≡ z)
-hears_one (books pan label amount) x p q e r s y z f g = said_one said_booked p q e f g
-hears_one (releases n) x p q e r s y z f g = said_one said_released p q e f g
-hears_one (shows n) x p q e r s y z f g = said_one said_shown p q e f g
-hears_one tells x p q e r s y z f g = said_one said_told p q e f g
+hears_one (books pan label amount) x p q e r s y z f g = said_one said p q e f g
+hears_one (releases n) x p q e r s y z f g = said_one said p q e f g
+hears_one (shows n) x p q e r s y z f g = said_one said p q e f g
+hears_one tells x p q e r s y z f g = said_one said p q e f g
 hears_one (walks n) x p q e r s y z f g = said_one (λ o. o) p q e f g
 hears_one starts x p q e r s y z f g = said_one (λ o. o) p q e f g
 hears_one (steps n) x p q e r s y z f g = said_one (λ o. o) p q e f g
 hears_one surveys x p q e r s y z f g =
-    let h = said_one said_surveyed p.says q.says (ap (λ v. v.says) e) f.0 g.0 in
+    let h = said_one said p.says q.says (ap (λ v. v.says) e) f.0 g.0 in
     (h.0, λ i. (h.1 i, (f.1 ∙ ap (λ v. v.states) e ∙ sym g.1) i))
 hears_one (swipes card amount) x p q e r s y z f g =
-    let h = said_one said_swiped p.says q.says (ap (λ v. v.says) e) f.0 g.0 in
+    let h = said_one said p.says q.says (ap (λ v. v.says) e) f.0 g.0 in
     (h.0, λ i. (h.1 i, (f.1 ∙ ap (λ v. v.scratch) e ∙ sym g.1) i))
 
 -- ---- programs
@@ -102,10 +98,10 @@ zero_gives : {A : Type 0} (o : Outcome A) (x y : A) → (o ≡ refuses 0 → ⊥
 zero_gives (gives v) x y n h = ap gives (sym h.behind)
 zero_gives (refuses k) x y n h = absurd (n (ap refuses (sym h.number)))
 
-walk-number : (m : Newest) (j : List ℕ) (s : ℕ) → walk_rule m j s ≡ refuses 0 → ⊥
+walk-number : (m : Option ℕ) (j : List ℕ) (s : ℕ) → walk_rule m j s ≡ refuses 0 → ⊥
 unfolding walk_rule
-walk-number Malformed j s e = let z : ◌≡◌ {A = ℕ} 16 0 = ap number_in e in omega arith
-walk-number (Is b) j s e = gives_refuses _ 0 e
+walk-number None j s e = let z : ◌≡◌ {A = ℕ} 16 0 = ap number_in e in omega arith
+walk-number (Some b) j s e = gives_refuses _ 0 e
 
 step_number : (j : List ℕ) (s : ℕ) → step_rule j s ≡ refuses 0 → ⊥
 unfolding step_rule held_rule
@@ -115,20 +111,20 @@ step_number j s e = go (held_here j s) e
     go true e = gives_refuses _ 0 e
     go false e = let z : ◌≡◌ {A = ℕ} 20 0 = ap number_in e in omega arith
 
-start-number : (j : List ℕ) (b : ℕ) → start_rule (Is b) j ≡ refuses 0 → ⊥
+start-number : (j : List ℕ) (b : ℕ) → start_rule (Some b) j ≡ refuses 0 → ⊥
 unfolding start_rule tell_rule
 start-number j b e = gives_refuses _ 0 e
 
 gives_one : {A : Type 0} (y z : A) → gives y ≡ gives z → y ≡ z
 gives_one y z e = cc
 
-module _ (j : List ℕ) (b : ℕ) (is : NewestIs j (Is b)) where
+module _ (j : List ℕ) (b : ℕ) (is : NewestIs j (Some b)) where
   walks_anew : (s : ℕ) (y : ℕ × ℕ) → WalksTo j s y → anew j b s y
-  walks_anew s y w = zero_gives _ w.0 y (walk-number (Is b) j s) (known j b is w.1)
+  walks_anew s y w = zero_gives _ w.0 y (walk-number (Some b) j s) (known j b is w.1)
 
   -- gw_journal_walk, from 0 on until it says done, on a journal that stays: the held records, each once, by rising serial
   pub walk_held : Above j (WalksTo j) 0 (held_list j b)
-  walk_held = above_by j (λ s y e. (y, record { view = Is b; is = is; so = gave _ _ _ y (sym e) })) (above_all j b is)
+  walk_held = above_by j (λ s y e. (y, record { view = Some b; is = is; so = gave _ _ _ y (sym e) })) (above_all j b is)
 
   -- and nothing else
   pub walk_held_only : (rs : List (List ℕ)) → Above j (WalksTo j) 0 rs → rs ≡ held_list j b

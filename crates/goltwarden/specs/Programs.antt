@@ -1,12 +1,9 @@
 -- Programs in C: calls of the interface that are lent a journal, made one after another, and the calls of `history` that they are.
 use Rattle.std.specs.Prelude.{ℕ, ◌<◌, ◌≡◌, List, [], ◌∷◌}
+use Rattle.reasons.specs.Reasons.{said}
 use Rattle.stream.specs.Stream.{bit_n}
 use Rattle.slots.specs.Journal.{SameButClocks}
-use Rattle.held.specs.Rules.{said_shown, said_told}
-use Rattle.journal.specs.Rules.{said_booked, said_released}
-use Rattle.surveys.specs.Survey.{said_surveyed}
 use Rattle.payer.specs.Payer.{Given}
-use Rattle.swipe.specs.Swipe.{said_swiped}
 use Rattle.history.specs.History.{Call, book, swipe, release, reads, find, tell, survey, walk_above, walk_first, walk_step, AnswerTo, Done}
 use Rattle.hands.specs.Hands.{Hands}
 use Rattle.c_box.specs.Calls.{JournalBooks, JournalReleases, JournalShows, JournalTells, JournalWalks, WalkStarts, WalkSteps, JournalSurveys}
@@ -65,15 +62,15 @@ call_of (swipes card amount) x = swipe card amount x.1
 
 -- C is handed what that call's answer q says
 abbrev pub Hears : (a : Asks) (x : Lent a) → AnswerTo (call_of a x) → ℕ → Lent a → Type 0
-Hears (books pan label amount) x q r y = Hands (said_booked q) x (λ v. v) r y
-Hears (releases s) x q r y = Hands (said_released q) x (λ t. (t.count, t.sum)) r y
-Hears (shows s) x q r y = Hands (said_shown q) x (λ v. v) r y
-Hears tells x q r y = Hands (said_told q) x (λ t. (t.count, t.sum, t.oldest, t.newest)) r y
+Hears (books pan label amount) x q r y = Hands (said q) x (λ v. v) r y
+Hears (releases s) x q r y = Hands (said q) x (λ t. (t.count, t.sum)) r y
+Hears (shows s) x q r y = Hands (said q) x (λ v. v) r y
+Hears tells x q r y = Hands (said q) x (λ t. (t.count, t.sum, t.oldest, t.newest)) r y
 Hears (walks s) x q r y = Hands q x (λ v. v) r y
 Hears starts x q r y = Hands q x (λ v. v) r y
 Hears (steps s) x q r y = Hands q x (λ v. v) r y
-Hears surveys x q r y = Hands (said_surveyed q.says) x.0 bit_n r y.0 × (y.1 ≡ q.states)
-Hears (swipes card amount) x q r y = Hands (said_swiped q.says) x.0 (λ b. swipe_numbers x.0 b.serial b.left) r y.0 × (y.1 ≡ q.scratch)
+Hears surveys x q r y = Hands (said q.says) x.0 bit_n r y.0 × (y.1 ≡ q.states)
+Hears (swipes card amount) x q r y = Hands (said q.says) x.0 (λ b. swipe_numbers x.0 b.serial b.left) r y.0 × (y.1 ≡ q.scratch)
 
 -- ---- calls one after another
 

@@ -6,6 +6,7 @@ ghost use Rattle.c_box.specs.Calls.{Swipes};
 
 use dates::Date;
 use layout::Track;
+use payer::Terms;
 
 #[unsafe(no_mangle)]
 pub extern "C" fn gw_swipe(
@@ -34,10 +35,12 @@ pub extern "C" fn gw_swipe(
         Track::Two,
         stream,
         bits,
-        site,
-        acquirer,
-        hot,
-        digits,
+        Terms {
+            site,
+            acquirer,
+            hot,
+            digits,
+        },
         amount,
         Date { year, month, day },
         clock,
@@ -76,10 +79,12 @@ pub extern "C" fn gw_swipe1(
         Track::One,
         stream,
         bits,
-        site,
-        acquirer,
-        hot,
-        digits,
+        Terms {
+            site,
+            acquirer,
+            hot,
+            digits,
+        },
         amount,
         Date { year, month, day },
         clock,

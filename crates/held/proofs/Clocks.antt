@@ -1,4 +1,5 @@
 -- "No call compares clocks": the held lists of two journals that differ in clocks alone, and what tell and show answer.
+use Rattle.std.proofs.Common.{Option}
 use Prim.Native.Nat.{ℕ, zero, suc, ◌≤◌, ◌<◌, ◌+◌, ◌-◌, ◌/◌, ◌%◌}
 use mathlib.Core.Path.{◌≡◌, refl, sym, ap, ◌∙◌, subst}
 use mathlib.Core.Bool.{Bool, true, false, cond, ◌&&◌}
@@ -14,7 +15,6 @@ use Rattle.reasons.specs.Reasons.{gives, demand}
 use Rattle.slots.specs.Record.{is_held, record32}
 use Rattle.slots.specs.Journal.{slots_of, place, state_of, SameButClocks}
 use Rattle.slots.specs.Views.{formed, newest}
-use Rattle.slots.specs.declared.Newest.{Newest}
 use Rattle.slots.proofs.Ranges.{differ}
 use Rattle.slots.proofs.Records.{u32_in}
 use Rattle.slots.proofs.Clocks.{slot_byte, same_state}
@@ -105,13 +105,13 @@ module _ (j k : List ℕ) (w : SameButClocks j k) where
 
   -- ---- the rules
 
-  pub clock_tell : (m : Newest) → tell_rule m j ≡ tell_rule m k
+  pub clock_tell : (m : Option ℕ) → tell_rule m j ≡ tell_rule m k
   unfolding tell_rule
   clock_tell m =
       let u = clock_list (newest m) in
       λ i. demand (formed m) 16 (gives (record { count = same_length _ _ u i; sum = same_sum _ _ u i; oldest = same_first _ _ u i; newest = newest m }))
 
-  pub clock_show : (m : Newest) (s : ℕ) → show_rule m j s ≡ show_rule m k s
+  pub clock_show : (m : Option ℕ) (s : ℕ) → show_rule m j s ≡ show_rule m k s
   unfolding show_rule held_in
   clock_show m s =
       λ i. demand (formed m) 16 (demand (within (newest m - slots_same i + 1) (newest m) s && is_held (same_path i)) 20 (gives (place (slots_same i) s)))

@@ -10,42 +10,25 @@ use lib.Seq.{get_or-take, get_or-drop}
 use Rattle.text.specs.Numbers.{u32_at}
 use Rattle.text.specs.Parts.{PartOf}
 use Rattle.text.proofs.Parts.{Same, part_one}
-use Rattle.reasons.specs.Reasons.{Outcome, number_of}
-use Rattle.reasons.proofs.Laws.{gives_refuses, refuses_one}
+use Rattle.reasons.specs.Reasons.{Outcome}
+use Rattle.reasons.proofs.Laws.{gives_refuses, said_one}
+use Rattle.reasons.specs.declared.Reason.{Reason}
+use Rattle.std.proofs.Common.{Result}
 use Rattle.slots.specs.Record.{is_held}
 use Rattle.slots.specs.Journal.{slots_of, place, state_of, Formed}
 use Rattle.slots.proofs.Records.{u32_in}
 use Rattle.slots.proofs.Views.{one_view}
 use Rattle.held.specs.declared.Told.{Told}
-use Rattle.held.specs.declared.Told.TheVariants as told
-use Rattle.held.specs.declared.Shown.{Shown}
-use Rattle.held.specs.declared.Shown.TheVariants as shown
 use Rattle.held.specs.Held.{record_at, held_after, held_list, low_of, serial_of}
-use Rattle.held.specs.Rules.{Telling, Shows, the_record, nothing, said_told, said_shown, TellsOf, Finds, ShowsOf, NumberOfShow}
-
--- ---- an answer is told by what it says
-
-pub told_one : (r q : Told) → said_told r ≡ said_told q → r ≡ q
-told_one (told.Held c y o b) (told.Held d z p a) e =
-    let t : ◌≡◌ {A = Telling} (record { count = c; sum = y; oldest = o; newest = b }) (record { count = d; sum = z; oldest = p; newest = a }) = cc in
-    λ i. told.Held (t i).count (t i).sum (t i).oldest (t i).newest
-told_one (told.Held c y o b) (told.Refused x) e = gives_refuses _ (number_of x) e
-told_one (told.Refused a) (told.Held d z p b) e = gives_refuses _ (number_of a) (sym e)
-told_one (told.Refused a) (told.Refused b) e = ap told.Refused (refuses_one a b e)
-
-pub shown_one : (r q : Shown) → said_shown r ≡ said_shown q → r ≡ q
-shown_one (shown.At x) (shown.At y) e = let n : x ≡ y = cc in ap shown.At n
-shown_one (shown.At x) (shown.Refused b) e = gives_refuses x (number_of b) e
-shown_one (shown.Refused a) (shown.At y) e = gives_refuses y (number_of a) (sym e)
-shown_one (shown.Refused a) (shown.Refused b) e = ap shown.Refused (refuses_one a b e)
+use Rattle.held.specs.Rules.{Shows, the_record, nothing, TellsOf, Finds, ShowsOf, NumberOfShow}
 
 -- ---- the calls
 
-pub one_telling : (j : List ℕ) (r q : Told) → TellsOf j r → TellsOf j q → r ≡ q
-one_telling j r q a b = let w = one_view j a b in told_one r q (w.1 ∙ sym w.2)
+pub one_telling : (j : List ℕ) (r q : Result Told Reason) → TellsOf j r → TellsOf j q → r ≡ q
+one_telling j r q a b = let w = one_view j a b in said_one r q (w.1 ∙ sym w.2)
 
-pub one_finding : (j : List ℕ) (s : ℕ) (r q : Shown) → Finds j s r → Finds j s q → r ≡ q
-one_finding j s r q a b = let w = one_view j a b in shown_one r q (w.1 ∙ sym w.2)
+pub one_finding : (j : List ℕ) (s : ℕ) (r q : Result ℕ Reason) → Finds j s r → Finds j s q → r ≡ q
+one_finding j s r q a b = let w = one_view j a b in said_one r q (w.1 ∙ sym w.2)
 
 pub one_number : (j : List ℕ) (s x y : ℕ) → NumberOfShow j s x → NumberOfShow j s y → x ≡ y
 one_number j s x y a b = let w = one_view j a b in w.1 ∙ sym w.2

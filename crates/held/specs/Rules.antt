@@ -1,28 +1,19 @@
 -- What tell and show answer, in the paper's order.
-use Rattle.std.specs.Prelude.{ℕ, ◌+◌, ◌≡◌, Bool, ◌&&◌, List, length}
+use Rattle.std.specs.Prelude.{ℕ, ◌+◌, ◌≡◌, Bool, ◌&&◌, List, length, Option, Result}
 use Rattle.std.specs.Borrow.{Bor}
 use Rattle.text.specs.Bytes.{within}
 use Rattle.text.specs.Parts.{PartOf}
-use Rattle.reasons.specs.Reasons.{Outcome, gives, refuses, demand, number_in, number_of}
+use Rattle.reasons.specs.Reasons.{Outcome, gives, refuses, demand, number_in, said}
+use Rattle.reasons.specs.declared.Reason.{Reason}
 use Rattle.slots.specs.Record.{is_held}
 use Rattle.slots.specs.Journal.{slots_of, place, state_of}
 use Rattle.slots.specs.Views.{formed, newest, Seen}
-use Rattle.slots.specs.declared.Newest.{Newest}
 use Rattle.held.specs.Held.{low_of, held_list, sum_of, first_of}
 use Rattle.held.specs.declared.Told.{Told}
-use Rattle.held.specs.declared.Told.TheVariants as told
-use Rattle.held.specs.declared.Shown.{Shown}
-use Rattle.held.specs.declared.Shown.TheVariants as shown
 
 -- ---- tell
 
-pub record Telling : Type 0 where
-  pub count : ℕ
-  pub sum : ℕ
-  pub oldest : ℕ
-  pub newest : ℕ
-
-unfoldable pub tell_rule : Newest → List ℕ → Outcome Telling
+unfoldable pub tell_rule : Option ℕ → List ℕ → Outcome Told
 tell_rule m j =
     demand (formed m) 16
     (gives (record {
@@ -39,7 +30,7 @@ unfoldable pub held_in : List ℕ → ℕ → ℕ → Bool
 held_in j b s = within (low_of j b + 1) b s && is_held (state_of j (slots_of j) s)
 
 -- where its record begins
-unfoldable pub show_rule : Newest → List ℕ → ℕ → Outcome ℕ
+unfoldable pub show_rule : Option ℕ → List ℕ → ℕ → Outcome ℕ
 show_rule m j s =
     demand (formed m) 16
     (demand (held_in j (newest m) s) 20
@@ -50,23 +41,13 @@ pub data Shows (j : Bor (List ℕ)) : Outcome ℕ → Bor (List ℕ) → Type 0 
   the_record : {at : ℕ} {r : Bor (List ℕ)} → PartOf j at 32 r → Shows j (gives at) r
   nothing : {n : ℕ} {r : Bor (List ℕ)} → PartOf j 0 0 r → Shows j (refuses n) r
 
--- ---- what the cases of the answers say in the paper's terms
-
-abbrev pub said_told : Told → Outcome Telling
-said_told (told.Held c y o b) = gives (record { count = c; sum = y; oldest = o; newest = b })
-said_told (told.Refused r) = refuses (number_of r)
-
-abbrev pub said_shown : Shown → Outcome ℕ
-said_shown (shown.At a) = gives a
-said_shown (shown.Refused r) = refuses (number_of r)
-
 -- ---- the promises: what a call allows, given a journal j, as answer r
 
-abbrev pub TellsOf : List ℕ → Told → Type 0
-TellsOf j r = Seen j (λ m. said_told r ≡ tell_rule m j)
+abbrev pub TellsOf : List ℕ → Result Told Reason → Type 0
+TellsOf j r = Seen j (λ m. said r ≡ tell_rule m j)
 
-abbrev pub Finds : List ℕ → ℕ → Shown → Type 0
-Finds j s r = Seen j (λ m. said_shown r ≡ show_rule m j s)
+abbrev pub Finds : List ℕ → ℕ → Result ℕ Reason → Type 0
+Finds j s r = Seen j (λ m. said r ≡ show_rule m j s)
 
 abbrev pub ShowsOf : Bor (List ℕ) → ℕ → Bor (List ℕ) → Type 0
 ShowsOf j s r = Seen j.now (λ m. Shows j (show_rule m j.now s) r)

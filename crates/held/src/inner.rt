@@ -1,13 +1,13 @@
 // The held records of a journal whose view is already made: for the calls of this crate, for release and for the walker.
-ghost use Rattle.std.specs.Prelude.{◌≡◌, cond, List, ◌∷◌, ℕ, ◌+◌, ◌*◌, ◌-◌, ◌≤◌, ◌<◌, length, take, drop};
+ghost use Rattle.std.specs.Prelude.{◌≡◌, cond, List, ◌∷◌, ℕ, ◌+◌, ◌*◌, ◌-◌, ◌≤◌, ◌<◌, length, take, drop, Some};
 ghost use Rattle.text.specs.Bytes.{within};
 ghost use Rattle.slots.specs.Record.{is_held, state_at};
 ghost use Rattle.slots.specs.Journal.{slots_of, Formed};
-ghost use Rattle.slots.specs.declared.Newest.TheVariants.{Is};
 ghost use Rattle.held.specs.Held.{held_after, Tallies};
-ghost use Rattle.held.specs.Rules.{tell_rule, show_rule, said_told, said_shown};
+ghost use Rattle.held.specs.Rules.{tell_rule, show_rule};
+ghost use Rattle.reasons.specs.Reasons.{gives, said};
 
-use crate::{Shown, Tallied, Told};
+use crate::{Tallied, Told};
 use reasons::Reason;
 
 // ---- the held records
@@ -41,11 +41,9 @@ pub fn tally(j: &[u8], n: usize, low: u32, top: u32) -> Tallied
         first: 0,
     };
     let mut at = slots::place_of(n, top);
-    let mut s = top;
-    while low < s {
+    for _s in (low..top).rev() {
         t = with_record(t, j, at);
         at = slots::back(n, at);
-        s -= 1;
     }
     t
 }
@@ -54,10 +52,7 @@ pub fn tally(j: &[u8], n: usize, low: u32, top: u32) -> Tallied
 pub fn is_after(low: u32, b: u32, s: u32) -> bool
     ensures { result ≡ within (low + 1) b s }
 {
-    if s <= low {
-        return false;
-    }
-    s <= b
+    low < s && s <= b
 }
 
 // ---- tell
@@ -65,29 +60,34 @@ pub fn is_after(low: u32, b: u32, s: u32) -> bool
 // Tells of a journal with newest serial b.
 pub fn tell_at(j: &[u8], b: u32) -> Told
     requires { Formed j.now (slots_of j.now) b }
-    ensures { said_told result ≡ tell_rule (Is b) j.now }
+    ensures { gives result ≡ tell_rule (Some b) j.now }
 {
     let n = j.len() / 32;
     let low = slots::floor_of(n, b);
     let t = tally(j, n, low, b);
-    Told::Held(t.count, t.sum, t.first, b)
+    Told {
+        count: t.count,
+        sum: t.sum,
+        oldest: t.first,
+        newest: b,
+    }
 }
 
 // ---- show
 
 // Where the held record of serial s begins in a journal with newest serial b.
-pub fn find_at(j: &[u8], b: u32, s: u32) -> Shown
+pub fn find_at(j: &[u8], b: u32, s: u32) -> Result<usize, Reason>
     requires { Formed j.now (slots_of j.now) b }
-    ensures { said_shown result ≡ show_rule (Is b) j.now s }
+    ensures { said result ≡ show_rule (Some b) j.now s }
 {
     let n = j.len() / 32;
     let low = slots::floor_of(n, b);
     if !is_after(low, b, s) {
-        return Shown::Refused(Reason::NoSerial);
+        return Err(Reason::NoSerial);
     }
     let at = slots::place_of(n, s);
     if slots::is_held(j[at + 15]) {
-        return Shown::At(at);
+        return Ok(at);
     }
-    Shown::Refused(Reason::NoSerial)
+    Err(Reason::NoSerial)
 }

@@ -2,24 +2,18 @@
 #![tactic(auto)]
 
 use reasons::Reason;
-use slots::Newest;
 
 pub mod inner;
 
 ghost use Rattle.held.specs.Rules.{TellsOf, Finds, ShowsOf, NumberOfShow};
 
-// Count and sum of the held records, the oldest held serial and the newest serial.
-#[derive(Clone, Copy)]
-pub enum Told {
-    Held(u32, u64, u32, u32),
-    Refused(Reason),
-}
-
-// Where the record begins.
-#[derive(Clone, Copy)]
-pub enum Shown {
-    At(usize),
-    Refused(Reason),
+// What a journal holds: count and sum of the held records, the oldest held serial and the newest serial, 0 for none.
+#[derive(Clone, Copy, Debug, PartialEq, Eq)]
+pub struct Told {
+    pub count: u32,
+    pub sum: u64,
+    pub oldest: u32,
+    pub newest: u32,
 }
 
 // What records come to: their count, the sum of their amounts, the serial of the first, 0 for none.
@@ -30,23 +24,25 @@ pub struct Tallied {
     pub first: u32,
 }
 
-// Count and sum of the held records, the oldest held serial and the newest serial, 0 for none.
-pub fn tell(j: &[u8]) -> Told
+// What the journal holds.
+#[tactic(auto, using(crate::proofs::Rule::tell_bad))]
+pub fn tell(j: &[u8]) -> Result<Told, Reason>
     ensures { TellsOf j.now result }
 {
-    match slots::newest_of(j) {
-        Newest::Malformed => Told::Refused(Reason::BadJournal),
-        Newest::Is(b) => inner::tell_at(j, b),
-    }
+    let Some(b) = slots::newest_of(j) else {
+        return Err(Reason::BadJournal);
+    };
+    Ok(inner::tell_at(j, b))
 }
 
 // Where the held record of serial s begins.
-pub fn find(j: &[u8], s: u32) -> Shown
+#[tactic(auto, using(crate::proofs::Rule::show_bad))]
+pub fn find(j: &[u8], s: u32) -> Result<usize, Reason>
     ensures { Finds j.now s result }
 {
     match slots::newest_of(j) {
-        Newest::Malformed => Shown::Refused(Reason::BadJournal),
-        Newest::Is(b) => inner::find_at(j, b, s),
+        None => Err(Reason::BadJournal),
+        Some(b) => inner::find_at(j, b, s),
     }
 }
 
@@ -55,8 +51,8 @@ pub fn show(j: &[u8], s: u32) -> &[u8]
     ensures { ShowsOf j.entry s result }
 {
     match find(j, s) {
-        Shown::At(at) => &j[at..at + 32],
-        Shown::Refused(_) => &j[..0],
+        Ok(at) => &j[at..at + 32],
+        Err(_) => &j[..0],
     }
 }
 
@@ -65,7 +61,7 @@ pub fn show_number(j: &[u8], s: u32) -> u32
     ensures { NumberOfShow j.now s result }
 {
     match find(j, s) {
-        Shown::At(_) => 0,
-        Shown::Refused(r) => reasons::number(r),
+        Ok(_) => 0,
+        Err(why) => reasons::number(why),
     }
 }

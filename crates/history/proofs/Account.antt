@@ -1,24 +1,21 @@
 -- The account of calls made on a journal: what was held and then what they booked is what they released and then what is held.
+use Rattle.std.proofs.Common.{Some, Result, Ok, Err}
 use Prim.Native.Nat.{ℕ, zero, suc, max, ◌≤◌, ◌<◌, ◌+◌, ◌-◌}
 use mathlib.Core.Path.{◌≡◌, refl, sym, ap, ◌∙◌, subst, subst⁻¹}
 use mathlib.Core.List.{List, [], ◌∷◌, ◌++◌, map, append_assoc, append-nil}
 use native.Mathlib.Omega.{arith}
 use lib.ListN.{length, length-append}
 use Rattle.slots.specs.Journal.{Formed, NewestIs, slots_of}
-use Rattle.slots.specs.declared.Newest.TheVariants.{Is}
 use Rattle.slots.proofs.Views.{known}
 use Rattle.held.specs.Held.{held_after, held_up_to, held_list, sum_of}
 use Rattle.journal.specs.Rules.{Books, Releases}
-use Rattle.journal.specs.declared.Booked.{Booked}
-use Rattle.journal.specs.declared.Booked.TheVariants as booking
 use Rattle.journal.specs.declared.Released.{Released}
-use Rattle.journal.specs.declared.Released.TheVariants as releasing
 use Rattle.held.proofs.Lists.{held_at_most, held_count, sum-append}
 use Rattle.journal.proofs.Calls.{Booked_so, book_changes, book_refused, Released_so, release_changes, release_refused}
 use Rattle.reasons.specs.Reasons.{Outcome, gives}
 use Rattle.payer.specs.Payer.{Given, Payer, card_rule}
-use Rattle.swipe.specs.declared.Swiped.{Swiped}
-use Rattle.swipe.specs.declared.Swiped.TheVariants as swiping
+use Rattle.reasons.specs.declared.Reason.{Reason}
+use Rattle.swipe.specs.declared.Receipt.{Receipt}
 use Rattle.swipe.proofs.Laws.{ComesTo, refusal, one_booking, as_booked, swipe_comes_to}
 use Rattle.history.specs.History.{Payment, record_of, Effect, nothing, booked_in, serial_in, count_in, sum_in, of_booking, of_release, up_from, Call, book, swipe, of_swipe, release, reads, aside, AnswerTo, Does, Done, Run, no_more, next, effect, booked, highest, freed_count, freed_sum}
 
@@ -53,7 +50,7 @@ smalls_append (p ∷ ps) qs a b = (a.0, smalls_append ps qs a.1 b)
 -- calls on the journal j with newest serial b, all up to serial top released, which booked ps, released up to `to`, answered that these were
 -- so many of such a sum, and left k
 pub record Account (j : List ℕ) (b top : ℕ) (ps : List Payment) (to count sum : ℕ) (k : List ℕ) : Type 0 where
-  pub newest : NewestIs k (Is (b + length ps))
+  pub newest : NewestIs k (Some (b + length ps))
   pub fits : b + length ps < 4294967296
   pub small : Smalls ps
   pub serials : map (λ (p : Payment). p.serial) ps ≡ up_from b (length ps)
@@ -82,7 +79,7 @@ join {j} {k} {l} {b} {top} {ps} {qs} {to} {on} {count} {more} {sum} {rest} x y =
     let g : List (List ℕ) = x.gone in
     let h : List (List ℕ) = y.gone in
     record {
-      newest = subst (λ (c : ℕ). NewestIs l (Is c)) n y.newest;
+      newest = subst (λ (c : ℕ). NewestIs l (Some c)) n y.newest;
       fits = subst (λ (c : ℕ). c < 4294967296) n y.fits;
       small = smalls_append ps qs x.small y.small;
       serials = map-append (λ (p : Payment). p.serial) ps qs ∙ (λ i. x.serials i ++ y.serials i)
@@ -110,7 +107,7 @@ quiet j b top k o e =
     let m : max top 0 ≡ top = omega arith in
     subst⁻¹ (λ (l : List ℕ). Step j b top nothing l) e
     (record {
-      newest = subst (λ (c : ℕ). NewestIs j (Is c)) n o.formed;
+      newest = subst (λ (c : ℕ). NewestIs j (Some c)) n o.formed;
       fits = subst (λ (c : ℕ). c < 4294967296) n o.fits;
       small = tt;
       serials = refl;
@@ -122,17 +119,17 @@ quiet j b top k o e =
     })
 
 -- a booking
-book_step : (j : List ℕ) (b top : ℕ) (pan : List ℕ) (label amount clock : ℕ) (r : Booked) (k : List ℕ) → Open j b top → amount < 4294967296
+book_step : (j : List ℕ) (b top : ℕ) (pan : List ℕ) (label amount clock : ℕ) (r : Result ℕ Reason) (k : List ℕ) → Open j b top → amount < 4294967296
     → Books j pan label amount clock r k → Step j b top (of_booking r clock amount label pan) k
 unfolding up_from sum_of
-book_step j b top pan label amount clock (booking.Refused x) k o small w = quiet j b top k o (book_refused j pan label amount clock x k w)
-book_step j b top pan label amount clock (booking.Serial s) k o small w =
+book_step j b top pan label amount clock (Err x) k o small w = quiet j b top k o (book_refused j pan label amount clock x k w)
+book_step j b top pan label amount clock (Ok s) k o small w =
     let v = known j b o.formed w in
     let d : Booked_so j pan label amount clock b s k = book_changes j pan label amount clock b s k o.formed o.fits small v.0 v.1 in
     let n : s ≡ b + 1 = d.serial in
     let l : length (held_list k (b + 1)) ≡ length (held_list j b) + 1 = ap (λ (c : ℕ). length (held_list k c)) (sym n) ∙ ap length d.held ∙ length-append (held_list j b) _ in
     record {
-      newest = subst (λ (c : ℕ). NewestIs k (Is c)) n d.newest;
+      newest = subst (λ (c : ℕ). NewestIs k (Some c)) n d.newest;
       fits = subst (λ (c : ℕ). c < 4294967296) n d.fits;
       small = (small, tt);
       serials = ap (λ (c : ℕ). c ∷ []) n;
@@ -143,16 +140,16 @@ book_step j b top pan label amount clock (booking.Serial s) k o small w =
       above = let a = o.above in omega arith;
     }
 
-swipe_step : (j : List ℕ) (b top : ℕ) (g : Given) (amount clock : ℕ) (r : Swiped) (k : List ℕ) → Open j b top → amount < 4294967296
+swipe_step : (j : List ℕ) (b top : ℕ) (g : Given) (amount clock : ℕ) (r : Result Receipt Reason) (k : List ℕ) → Open j b top → amount < 4294967296
     → ComesTo g amount clock j r k → Step j b top (of_swipe r (card_rule g) clock amount) k
 swipe_step j b top g amount clock r k o small (refusal x e q) =
-    subst⁻¹ (λ (a : Swiped). Step j b top (of_swipe a (card_rule g) clock amount) k) e (quiet j b top k o q)
+    subst⁻¹ (λ (a : Result Receipt Reason). Step j b top (of_swipe a (card_rule g) clock amount) k) e (quiet j b top k o q)
 swipe_step j b top g amount clock r k o small (one_booking p e w) =
     subst⁻¹ (λ (c : Outcome Payer). Step j b top (of_swipe r c clock amount) k) e (pays r (book_step j b top p.pan p.label amount clock (as_booked r) k o small w))
   where
-    pays : (r : Swiped) → Step j b top (of_booking (as_booked r) clock amount p.label p.pan) k → Step j b top (of_swipe r (gives p) clock amount) k
-    pays (swiping.Booked s d) w = w
-    pays (swiping.Refused x) w = w
+    pays : (r : Result Receipt Reason) → Step j b top (of_booking (as_booked r) clock amount p.label p.pan) k → Step j b top (of_swipe r (gives p) clock amount) k
+    pays (Ok b) w = w
+    pays (Err x) w = w
 
 -- a release up to s frees those above the highest released before
 pub up_count : (j : List ℕ) (b s top : ℕ) → Formed j (slots_of j) b → s ≤ b → length (held_list j b) + top ≡ b → length (held_up_to j b s) ≡ s - top
@@ -166,19 +163,19 @@ up_count j b s top f h e =
     held_count j n b m p top f (omega arith) (subst (λ (x : ℕ). length (held_after j n (b - n) x) + top ≡ b) sp e) in
     omega arith
 
-release_step : (j : List ℕ) (b top s : ℕ) (r : Released) (k : List ℕ) → Open j b top → Releases j s r k → Step j b top (of_release r s) k
+release_step : (j : List ℕ) (b top s : ℕ) (r : Result Released Reason) (k : List ℕ) → Open j b top → Releases j s r k → Step j b top (of_release r s) k
 unfolding up_from
-release_step j b top s (releasing.Refused x) k o w = quiet j b top k o (release_refused j s x k w)
-release_step j b top s (releasing.Those c y) k o w =
+release_step j b top s (Err x) k o w = quiet j b top k o (release_refused j s x k w)
+release_step j b top s (Ok q) k o w =
     let v = known j b o.formed w in
-    let d : Released_so j b s c y k = release_changes j b s c y k o.formed v.0 v.1 in
+    let d : Released_so j b s q.count q.sum k = release_changes j b s q.count q.sum k o.formed v.0 v.1 in
     let n : b ≡ b + 0 = omega arith in
     let up : List (List ℕ) = held_up_to j b s in
     let lu : length up ≡ s - top = up_count j b s top o.formed d.there o.above in
     let ll : length up + length (held_list k b) ≡ length (held_list j b) = sym (length-append up (held_list k b)) ∙ ap length d.held in
     let lk : length (held_list k b) + max top s ≡ b = let a = o.above in let t = d.there in omega arith in
     record {
-      newest = subst (λ (c : ℕ). NewestIs k (Is c)) n d.newest;
+      newest = subst (λ (c : ℕ). NewestIs k (Some c)) n d.newest;
       fits = subst (λ (c : ℕ). c < 4294967296) n o.fits;
       small = tt;
       serials = refl;

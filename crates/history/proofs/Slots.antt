@@ -1,4 +1,5 @@
 -- Slots of two journals that differ in clocks alone, and their surveys.
+use Rattle.std.proofs.Common.{Option, Result}
 use Prim.Native.Nat.{ℕ, ◌≤◌, ◌+◌, ◌*◌, ◌/◌, ◌%◌}
 use mathlib.Core.Path.{◌≡◌, refl, sym, ap, ◌∙◌, subst}
 use mathlib.Core.Bool.{Bool, false, ◌&&◌, and-false}
@@ -12,12 +13,11 @@ use Rattle.reasons.specs.Reasons.{Outcome, gives, demand}
 use Rattle.slots.specs.Record.{is_held, is_released, is_record, kept, length_fits, length_at, serial_at, state_at, Zeros, Good}
 use Rattle.slots.specs.Journal.{SameButClocks, slots_of, sized, place}
 use Rattle.slots.specs.Views.{formed}
-use Rattle.slots.specs.declared.Newest.{Newest}
 use Rattle.slots.proofs.States.{free_no_record}
 use Rattle.slots.proofs.Records.{good_same}
 use Rattle.slots.proofs.Clocks.{slot_byte, slot_state, clocks_turned, clock_view}
 use Rattle.surveys.specs.Survey.{Belongs, SlotIs, free, held, released, damaged, survey_rule, Fills, filled, unfilled, Surveys}
-use Rattle.surveys.specs.declared.Surveyed.{Surveyed}
+use Rattle.reasons.specs.declared.Reason.{Reason}
 
 module _ (j k : List ℕ) (s : SameButClocks j k) where
   pub clock_serial : (x : ℕ) → serial_at j (32 * x) ≡ serial_at k (32 * x)
@@ -69,12 +69,12 @@ module _ (j k : List ℕ) (s : SameButClocks j k) where
       })
   fills_same out o l unfilled = unfilled
 
-  survey_same : (m : Newest) (n : ℕ) → survey_rule m j n ≡ survey_rule m k n
+  survey_same : (m : Option ℕ) (n : ℕ) → survey_rule m j n ≡ survey_rule m k n
   unfolding survey_rule
   survey_same m n = λ i. demand (sized (s.size i)) 16 (demand (leb (s.size i / 32) n) 1 (gives (formed m)))
 
   -- "No call compares clocks", the survey neither
-  pub clock_survey : (out : List ℕ) (r : Surveyed) (l : List ℕ) → Surveys j out r l → Surveys k out r l
+  pub clock_survey : (out : List ℕ) (r : Result Bool Reason) (l : List ℕ) → Surveys j out r l → Surveys k out r l
   clock_survey out r l w =
       let e = survey_same w.view (length out) in
       record {

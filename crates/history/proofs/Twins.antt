@@ -1,4 +1,5 @@
 -- Two runs over the same calls at any clock readings: what one call does on journals that differ in clocks alone.
+use Rattle.std.proofs.Common.{Option}
 use Prim.Native.Nat.{ℕ, zero, suc, min, max, ◌+◌, ◌-◌, ◌/◌, ◌%◌}
 use mathlib.Core.Path.{◌≡◌, refl, sym, ap, ◌∙◌, subst, subst⁻¹}
 use mathlib.Core.Bool.{Bool, not, cond, ◌&&◌}
@@ -9,16 +10,14 @@ use lib.Dec.{eqb}
 use denote.Ref.{Bor}
 use Rattle.text.specs.Bytes.{within}
 use Rattle.reasons.specs.Reasons.{Outcome, gives, refuses, demand, and_then, after, number_in}
-use Rattle.reasons.proofs.Laws.{passed}
 use Rattle.slots.specs.Record.{is_held, serial_at}
 use Rattle.slots.proofs.Clocks.{slot_state}
 use Rattle.slots.specs.Journal.{SameButClocks, slots_of, place, state_of}
 use Rattle.slots.specs.Views.{Seen, formed, newest}
-use Rattle.slots.specs.declared.Newest.{Newest}
 use Rattle.held.specs.Held.{record_at, SameRecord, held_after, low_of, first_of}
-use Rattle.held.specs.Rules.{Shows, the_record, nothing, ShowsOf, show_rule, held_in, Telling}
-use Rattle.held.proofs.Laws.{told_one, shown_one}
-use Rattle.journal.proofs.Laws.{booked_one, released_one}
+use Rattle.held.specs.Rules.{Shows, the_record, nothing, ShowsOf, show_rule, held_in}
+use Rattle.held.specs.declared.Told.{Told}
+use Rattle.reasons.proofs.Laws.{passed, said_one}
 use Rattle.surveys.proofs.Surveys.{one_survey}
 use Rattle.held.proofs.Clocks.{same_first, clock_held, clock_shown, clock_tell, clock_show}
 use Rattle.journal.proofs.Clocks.{clock_book, clock_release, clock_book_bytes, clock_release_bytes}
@@ -53,7 +52,7 @@ walked_part j t p h =
     subst (λ (l : List ℕ). IsPart l (held_rule l t) p) h.lent (is_part h.journal h.part (held_rule h.journal.now t) p h.promised h.place h.same)
 
 -- where a record that is handed out begins
-shown_at : (m : Newest) (j : List ℕ) (t at : ℕ) → show_rule m j t ≡ gives at → place (slots_of j) t ≡ at
+shown_at : (m : Option ℕ) (j : List ℕ) (t at : ℕ) → show_rule m j t ≡ gives at → place (slots_of j) t ≡ at
 unfolding show_rule
 shown_at m j t at e =
     let v = (passed (formed m) 16 _ at e).1 in
@@ -110,15 +109,15 @@ module _ (j k : List ℕ) (s : SameButClocks j k) where
   clock_walk_place zero = refl
   clock_walk_place (suc t) = ap (λ (x : ℕ). place (x / 32) (suc t)) s.size
 
-  clock_anew : (m : Newest) (t : ℕ) → walk_rule m j t ≡ walk_rule m k t
+  clock_anew : (m : Option ℕ) (t : ℕ) → walk_rule m j t ≡ walk_rule m k t
   unfolding walk_rule
   clock_anew m t =
       ap (λ (x : ℕ). demand (formed m) 16 (gives (x, walk_place j x))) (clock_above (newest m) t)
       ∙ ap (λ (y : ℕ). demand (formed m) 16 (gives (first_above k (newest m) t, y))) (clock_walk_place (first_above k (newest m) t))
 
-  clock_start : (m : Newest) → start_rule m j ≡ start_rule m k
+  clock_start : (m : Option ℕ) → start_rule m j ≡ start_rule m k
   unfolding start_rule
-  clock_start m = ap (λ (o : Outcome Telling). and_then o (λ t. gives t.oldest)) (clock_tell j k s m)
+  clock_start m = ap (λ (o : Outcome Told). and_then o (λ t. gives t.oldest)) (clock_tell j k s m)
 
   clock_step : (t : ℕ) → step_rule j t ≡ step_rule k t
   unfolding step_rule
@@ -131,16 +130,16 @@ module _ (j k : List ℕ) (s : SameButClocks j k) where
   same_bytes {i} {n} {l} {m} e f w = subst⁻¹ (λ (r : List ℕ). SameButClocks r m) e (subst⁻¹ (λ (r : List ℕ). SameButClocks i r) f w)
 
   replies : (n : Question) (a d : ReplyTo n) → Replies j n a → Replies k n d → SameReply n a d
-  replies (find n) a d p q = let v = both j k s p q in shown_one a d (v.left ∙ clock_show j k s v.view n ∙ sym v.right)
+  replies (find n) a d p q = let v = both j k s p q in said_one a d (v.left ∙ clock_show j k s v.view n ∙ sym v.right)
   replies (show n) a d p q =
       let v = both j k s (shown_part j n a p) (shown_part k n d q) in
       parts_same j k n (show_rule v.view j n) a d s (shown_at v.view j n) v.left (subst⁻¹ (λ (o : Outcome ℕ). IsPart k o d) (clock_show j k s v.view n) v.right)
   replies (show_number n) a d p q = let v = both j k s p q in v.left ∙ ap number_in (clock_show j k s v.view n) ∙ sym v.right
-  replies tell a d p q = let v = both j k s p q in told_one a d (v.left ∙ clock_tell j k s v.view ∙ sym v.right)
+  replies tell a d p q = let v = both j k s p q in said_one a d (v.left ∙ clock_tell j k s v.view ∙ sym v.right)
   replies (survey t) a d p q =
       let w = one_survey k t a.says d.says a.states d.states (clock_survey j k s t a.says a.states p) q in
       λ i. record { says = w.0 i; states = w.1 i }
-  replies walk_start a d p q = let v = both j k s p q in v.left ∙ ap (λ (o : Outcome Telling). after o 0 (λ t. t.oldest)) (clock_tell j k s v.view) ∙ sym v.right
+  replies walk_start a d p q = let v = both j k s p q in v.left ∙ ap (λ (o : Outcome Told). after o 0 (λ t. t.oldest)) (clock_tell j k s v.view) ∙ sym v.right
   replies walk_number a d p q = let v = both j k s p q in v.left ∙ ap number_in (clock_tell j k s v.view) ∙ sym v.right
   replies (walk_record n) a d p q =
       parts_same j k n (held_rule j n) a d s (walked_at j n) (walked_part j n a p) (subst⁻¹ (λ (o : Outcome ℕ). IsPart k o d) (clock_walk j k s n) (walked_part k n d q))
@@ -152,7 +151,7 @@ module _ (j k : List ℕ) (s : SameButClocks j k) where
   pub twin : (t u : ℕ) (c : Call) (a d : AnswerTo c) (l m : List ℕ) → Does j t c a l → Does k u c d m → SameAnswer c a d × SameButClocks l m
   twin t u (book pan label amount) a d l m p q =
       let v = both j k s p.1 q.1 in (
-        booked_one a d (v.left.0 ∙ clock_book j k s v.view pan label amount ∙ sym v.right.0),
+        said_one a d (v.left.0 ∙ clock_book j k s v.view pan label amount ∙ sym v.right.0),
         same_bytes v.left.1 v.right.1 (clock_book_bytes j k s v.view v.is pan label amount t u),
       )
   twin t u (swipe card amount scratch) a d l m p q =
@@ -160,7 +159,7 @@ module _ (j k : List ℕ) (s : SameButClocks j k) where
       ((λ i. record { says = v.0 i; scratch = v.1 i }), v.2)
   twin t u (release n) a d l m p q =
       let v = both j k s p q in
-      (released_one a d (v.left.0 ∙ clock_release j k s v.view n ∙ sym v.right.0), same_bytes v.left.1 v.right.1 (clock_release_bytes j k s v.view n))
+      (said_one a d (v.left.0 ∙ clock_release j k s v.view n ∙ sym v.right.0), same_bytes v.left.1 v.right.1 (clock_release_bytes j k s v.view n))
   twin t u (reads n) a d l m p q = (replies n a d p.0 q.0, same_bytes p.1 q.1 s)
   twin t u aside a d l m p q = (refl, same_bytes p q s)
 

@@ -1,31 +1,25 @@
 -- Demand 3. Start from an all-zero journal of 1 to 2,048 slots, written only by booking, release and swipe, each lent it whole as its journal:
 -- what holds after any sequence of calls, refused ones and reading ones among them. Points 1 to 3 are `Demand3`, point 4 is `SameOutcomes`;
 -- proofs/Laws.antt has the theorems `demand_3` and `clocks_decide_nothing`.
-use Rattle.std.specs.Prelude.{ℕ, zero, suc, max, ◌+◌, ◌≤◌, ◌<◌, ◌≡◌, true, List, [], ◌∷◌, ◌++◌, map, ltb, length, take, drop}
+use Rattle.std.specs.Prelude.{ℕ, zero, suc, max, ◌+◌, ◌≤◌, ◌<◌, ◌≡◌, Bool, true, Result, Ok, Err, List, [], ◌∷◌, ◌++◌, map, ltb, length, take, drop, Some}
 use Rattle.std.specs.Borrow.{Bor}
 use Rattle.text.specs.Bytes.{within}
 use Rattle.slots.specs.Record.{record32}
 use Rattle.slots.specs.Journal.{NewestIs, SameButClocks}
-use Rattle.slots.specs.declared.Newest.TheVariants.{Is}
 use Rattle.held.specs.Held.{held_list, sum_of, SameRecord}
 use Rattle.held.specs.Rules.{Finds, Shows, ShowsOf, NumberOfShow, TellsOf, held_in}
 use Rattle.journal.specs.Rules.{Books, Releases}
 use Rattle.surveys.specs.Survey.{Surveys}
-use Rattle.journal.specs.declared.Booked.{Booked}
-use Rattle.journal.specs.declared.Booked.TheVariants as booking
 use Rattle.journal.specs.declared.Released.{Released}
-use Rattle.journal.specs.declared.Released.TheVariants as releasing
-use Rattle.held.specs.declared.Shown.{Shown}
 use Rattle.held.specs.declared.Told.{Told}
-use Rattle.surveys.specs.declared.Surveyed.{Surveyed}
 use Rattle.walker.specs.Walk.{held_rule, next_of, StartsAt, StartNumber}
 use Rattle.walker.specs.Steps.{walk_rule, start_rule, step_rule}
 use Rattle.slots.specs.Views.{Seen}
 use Rattle.reasons.specs.Reasons.{Outcome, after}
 use Rattle.payer.specs.Payer.{Given, Payer, card_rule}
+use Rattle.reasons.specs.declared.Reason.{Reason}
 use Rattle.swipe.specs.Swipe.{Swipes}
-use Rattle.swipe.specs.declared.Swiped.{Swiped}
-use Rattle.swipe.specs.declared.Swiped.TheVariants as swiping
+use Rattle.swipe.specs.declared.Receipt.{Receipt}
 
 -- ---- the calls
 
@@ -61,20 +55,20 @@ pub record Part : Type 0 where
 
 -- what a swipe answers, and its scratch afterwards
 pub record Swipe : Type 0 where
-  pub says : Swiped
+  pub says : Result Receipt Reason
   pub scratch : List ℕ
 
 -- what a survey answers, and the bytes of its output afterwards
 pub record Survey : Type 0 where
-  pub says : Surveyed
+  pub says : Result Bool Reason
   pub states : List ℕ
 
 -- what a call answers
 abbrev pub ReplyTo : Question → Type 0
-ReplyTo (find s) = Shown
+ReplyTo (find s) = Result ℕ Reason
 ReplyTo (show s) = Part
 ReplyTo (show_number s) = ℕ
-ReplyTo tell = Told
+ReplyTo tell = Result Told Reason
 ReplyTo (survey t) = Survey
 ReplyTo walk_start = ℕ
 ReplyTo walk_number = ℕ
@@ -85,9 +79,9 @@ ReplyTo walk_first = Outcome ℕ
 ReplyTo (walk_step s) = Outcome (ℕ × ℕ)
 
 abbrev pub AnswerTo : Call → Type 0
-AnswerTo (book pan label amount) = Booked
+AnswerTo (book pan label amount) = Result ℕ Reason
 AnswerTo (swipe card amount scratch) = Swipe
-AnswerTo (release s) = Released
+AnswerTo (release s) = Result Released Reason
 AnswerTo (reads q) = ReplyTo q
 AnswerTo aside = Unit {0}
 
@@ -153,19 +147,19 @@ pub data Effect : Type 0 where
   released_to : (serial count sum : ℕ) → Effect
   nothing : Effect
 
-abbrev pub of_booking : Booked → ℕ → ℕ → ℕ → List ℕ → Effect
-of_booking (booking.Serial s) clock amount label pan = booked_one (record { serial = s; clock = clock; amount = amount; label = label; pan = pan })
-of_booking (booking.Refused x) clock amount label pan = nothing
+abbrev pub of_booking : Result ℕ Reason → ℕ → ℕ → ℕ → List ℕ → Effect
+of_booking (Ok s) clock amount label pan = booked_one (record { serial = s; clock = clock; amount = amount; label = label; pan = pan })
+of_booking (Err x) clock amount label pan = nothing
 
 -- a swipe booked where it answers a serial, by that answer alone; with the PAN and the label that its card says, none where the card is refused
 -- (a serial is never answered for such a card: `swiped_card` of `swipe`)
-abbrev pub of_swipe : Swiped → Outcome Payer → ℕ → ℕ → Effect
-of_swipe (swiping.Booked s d) card clock amount = of_booking (booking.Serial s) clock amount (after card 0 (λ p. p.label)) (after card [] (λ p. p.pan))
-of_swipe (swiping.Refused x) card clock amount = nothing
+abbrev pub of_swipe : Result Receipt Reason → Outcome Payer → ℕ → ℕ → Effect
+of_swipe (Ok r) card clock amount = of_booking (Ok r.serial) clock amount (after card 0 (λ p. p.label)) (after card [] (λ p. p.pan))
+of_swipe (Err x) card clock amount = nothing
 
-abbrev pub of_release : Released → ℕ → Effect
-of_release (releasing.Those count sum) s = released_to s count sum
-of_release (releasing.Refused x) s = nothing
+abbrev pub of_release : Result Released Reason → ℕ → Effect
+of_release (Ok d) s = released_to s d.count d.sum
+of_release (Err x) s = nothing
 
 abbrev pub effect : ℕ → (c : Call) → AnswerTo c → Effect
 effect clock (book pan label amount) r = of_booking r clock amount label pan
@@ -246,7 +240,7 @@ pub record Demand3 (ds : List Done) (j : List ℕ) : Type 0 where
   pub held : held_list j (length (booked ds)) ≡ map record_of (waiting ds)
   -- 3. no payment is lost or made up: serials run 1, 2, 3 without a gap, and the journal is well formed with the last of them
   pub serials : map (λ (p : Payment). p.serial) (booked ds) ≡ up_from 0 (length (booked ds))
-  pub formed : NewestIs j (Is (length (booked ds)))
+  pub formed : NewestIs j (Some (length (booked ds)))
   pub reach : highest ds ≤ length (booked ds)
   -- each booked payment is held or released, never both
   pub either : (s : ℕ) → within 1 (length (booked ds)) s ≡ true → held_in j (length (booked ds)) s ≡ ltb (highest ds) s

@@ -1,13 +1,12 @@
 // The commands of the host's ledger: a fresh one, and a message that it takes.
 #![tactic(auto)]
 
-use ledger::{Ledger, Taken};
+use ledger::Ledger;
 use say::{Output, fields};
 
 // A ledger's two numbers in a sentence.
 fn told(out: &mut Output, form: &[u8], ledger: Ledger) {
-    let numbers = [ledger.taken as u64, ledger.total];
-    say::sentence(out, form, &numbers);
+    say::sentence(out, form, &[ledger.taken as u64, ledger.total]);
 }
 
 pub fn fresh(out: &mut Output) -> Ledger {
@@ -16,32 +15,20 @@ pub fn fresh(out: &mut Output) -> Ledger {
     ledger
 }
 
-// The ledger after a message; one that is refused leaves it as it is.
-fn take_message(out: &mut Output, message: &[u8], ledger: Ledger) -> Ledger {
-    match ledger::take(ledger, message) {
-        Taken::Now(next) => {
+// Takes the message of a line, any bytes that a line has room for: the ledger after it. One that is refused leaves it as it is.
+pub fn take(out: &mut Output, line: &[u8], ledger: Ledger) -> Ledger {
+    let mut room = [0u8; 70000];
+    let Some(n) = fields::bytes(out, line, &mut room) else {
+        return ledger;
+    };
+    match ledger::take(ledger, &room[..n]) {
+        Ok(next) => {
             told(out, b"taken # total #\n", next);
             next
         }
-        Taken::Refused(why) => {
+        Err(why) => {
             say::refused(out, why);
             ledger
         }
     }
-}
-
-fn take_in(out: &mut Output, line: &[u8], room: &mut [u8], ledger: Ledger) -> Ledger {
-    let filled = fields::bytes(out, line, room);
-    let clear = filled.clear;
-    if !clear {
-        return ledger;
-    }
-    let n = filled.length;
-    take_message(out, &room[0..n], ledger)
-}
-
-// Takes the message of a line: any bytes that a line has room for.
-pub fn take(out: &mut Output, line: &[u8], ledger: Ledger) -> Ledger {
-    let mut room = [0u8; 70000];
-    take_in(out, line, &mut room, ledger)
 }

@@ -1,10 +1,11 @@
 -- The laws of the hot list (request E8).
 use Prim.Native.Nat.{ℕ, suc, ◌+◌, ◌-◌, ◌*◌, ◌^◌, ◌≤◌, ◌<◌}
-use mathlib.Core.Path.{◌≡◌, refl, sym, ap, ◌∙◌}
+use mathlib.Core.Path.{◌≡◌, refl, sym, ◌∙◌}
 use mathlib.Core.Bool.{Bool, true, false, and-false}
 use mathlib.Core.Logic.{◌↔◌}
 use mathlib.Core.List.{List, [], ◌∷◌}
 use native.Mathlib.Omega.{arith}
+use Rattle.std.specs.Prelude.{Result}
 use lib.Dec.{ltb, eqb}
 use lib.ListN.{length, get_or}
 use borrow.Author.Tests.{le-leb, lt-ltb, ltb-true, eqb-true}
@@ -13,29 +14,17 @@ use Rattle.text.specs.Numbers.{decimal, decimal_after}
 use Rattle.text.proofs.Tests.{inside, inside_is, both_true}
 use Rattle.text.proofs.Every.{every_at, every_head}
 use Rattle.text.proofs.Numbers.{digit_small}
-use Rattle.reasons.specs.Reasons.{gives, refuses, demand, number_of}
-use Rattle.reasons.proofs.Laws.{First, never, gives_refuses, refuses_one, refuses_exactly, passed}
+use Rattle.reasons.specs.Reasons.{gives, refuses, demand, said}
+use Rattle.reasons.specs.declared.Reason.{Reason}
+use Rattle.reasons.proofs.Laws.{First, never, said_one, refuses_exactly, passed}
 use Rattle.pan.specs.Pan.{pan_length}
-use Rattle.hotlist.specs.Hotlist.{rises, list_ok, stands, listed, hot_rule, said_found, Place}
-use Rattle.hotlist.specs.declared.Found.{Found}
-use Rattle.hotlist.specs.declared.Found.TheVariants.{Listed, Unlisted, Refused}
+use Rattle.hotlist.specs.Hotlist.{rises, list_ok, stands, listed, hot_rule, Place}
 use Rattle.hotlist.proofs.Rising.{rises_at, every_if, stands_at, stands_where}
 use Rattle.hotlist.proofs.Steps.{list_is, same_length}
 
 -- any two outcomes that the question allows are equal
-found-same : (r q : Found) → said_found r ≡ said_found q → r ≡ q
-found-same Listed Listed e = refl
-found-same Unlisted Unlisted e = refl
-found-same Listed Unlisted e = let z : true ≡ false = cc in cc
-found-same Unlisted Listed e = let z : true ≡ false = cc in cc
-found-same Listed (Refused b) e = gives_refuses true (number_of b) e
-found-same Unlisted (Refused b) e = gives_refuses false (number_of b) e
-found-same (Refused a) Listed e = gives_refuses true (number_of a) (sym e)
-found-same (Refused a) Unlisted e = gives_refuses false (number_of a) (sym e)
-found-same (Refused a) (Refused b) e = ap Refused (refuses_one a b e)
-
-pub find_one : (s : List ℕ) (n : ℕ) (pan : List ℕ) (r q : Found) → said_found r ≡ hot_rule s n pan → said_found q ≡ hot_rule s n pan → r ≡ q
-find_one s n pan r q f g = found-same r q (f ∙ sym g)
+pub find_one : (s : List ℕ) (n : ℕ) (pan : List ℕ) (r q : Result Bool Reason) → said r ≡ hot_rule s n pan → said q ≡ hot_rule s n pan → r ≡ q
+find_one s n pan r q f g = said_one r q (f ∙ sym g)
 
 -- "rising strictly": of any two numbers of the list the later is the larger
 rises_if : (s : List ℕ) → ((i j : ℕ) → i < j → j < length s → get_or s i 0 < get_or s j 0) → rises s ≡ true

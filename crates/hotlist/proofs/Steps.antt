@@ -1,4 +1,4 @@
--- The list's check and the question, test by test.
+-- The list's check by its last number, and what a list that passed is.
 use Prim.Native.Nat.{ℕ, ◌-◌, ◌^◌, ◌≤◌, ◌<◌}
 use mathlib.Core.Path.{◌≡◌, refl, sym, ◌∙◌}
 use mathlib.Core.Bool.{Bool, true, false, ◌&&◌}
@@ -7,14 +7,13 @@ use native.Mathlib.Omega.{arith}
 use native.Mathlib.Nat.{lt_of_le_of_lt}
 use lib.Dec.{ltb, leb}
 use lib.ListN.{length, get_or}
-use borrow.Author.Tests.{le-leb, lt-leb, leb-true, lt-ltb, ltb-true, eq-eqb, ne_eqb}
-use Rattle.text.specs.Bytes.{every, all_digits}
+use borrow.Author.Tests.{le-leb, leb-true, lt-ltb, ltb-true, eq-eqb}
+use Rattle.text.specs.Bytes.{every}
 use Rattle.text.specs.Numbers.{decimal}
 use Rattle.text.proofs.Tests.{both_true}
 use Rattle.text.proofs.Every.{every_at}
-use Rattle.reasons.specs.Reasons.{gives, refuses}
 use Rattle.pan.specs.Pan.{pan_length}
-use Rattle.hotlist.specs.Hotlist.{rises, list_ok, stands, listed, hot_rule}
+use Rattle.hotlist.specs.Hotlist.{rises, list_ok, stands, listed}
 use Rattle.hotlist.proofs.Rising.{rises_up_to, every_if}
 
 -- of a list that rises the last number tells whether any is too large
@@ -34,28 +33,14 @@ module _ (s : List ℕ) (limit : ℕ) (r : rises s ≡ true) (h : 0 < length s) 
 
 -- the list's check
 module _ (s : List ℕ) (n : ℕ) where
-  pub too_long : 8192 < length s → list_ok s n ≡ false
-  unfolding list_ok
-  too_long h = rw (lt-leb (length s) 8192 h)
-
-  module _ (h : length s ≤ 8192) where
-    pub bad_length : pan_length n ≡ false → list_ok s n ≡ false
+  module _ (h : length s ≤ 8192) (p : pan_length n ≡ true) (r : rises s ≡ true) where
+    pub nothing_listed : length s ≡ 0 → list_ok s n ≡ true
     unfolding list_ok
-    bad_length p = rw (le-leb (length s) 8192 h, p)
+    nothing_listed e = rw (le-leb (length s) 8192 h, p, r) (every_if (λ x. ltb x (10 ^ n)) s (λ i l. absurd (omega arith)))
 
-    module _ (p : pan_length n ≡ true) where
-      pub not_rising : rises s ≡ false → list_ok s n ≡ false
-      unfolding list_ok
-      not_rising r = rw (le-leb (length s) 8192 h, p, r)
-
-      module _ (r : rises s ≡ true) where
-        pub nothing_listed : length s ≡ 0 → list_ok s n ≡ true
-        unfolding list_ok
-        nothing_listed e = rw (le-leb (length s) 8192 h, p, r) (every_if (λ x. ltb x (10 ^ n)) s (λ i l. absurd (omega arith)))
-
-        pub by_last : (limit : ℕ) → limit ≡ 10 ^ n → 0 < length s → ltb (get_or s (length s - 1) 0) limit ≡ list_ok s n
-        unfolding list_ok
-        by_last limit e l = rw (le-leb (length s) 8192 h, p, r, e) (last_tells s (10 ^ n) r l)
+    pub by_last : (last limit : ℕ) → last ≡ get_or s (length s - 1) 0 → limit ≡ 10 ^ n → 0 < length s → ltb last limit ≡ list_ok s n
+    unfolding list_ok
+    by_last last limit f e l = rw (le-leb (length s) 8192 h, p, r, f, e) (last_tells s (10 ^ n) r l)
 
   -- what a list that passed is
   pub list_is : list_ok s n ≡ true → (length s ≤ 8192) × (pan_length n ≡ true) × (rises s ≡ true) × (every (λ x. ltb x (10 ^ n)) s ≡ true)
@@ -66,31 +51,7 @@ module _ (s : List ℕ) (n : ℕ) where
       let c = both_true (rises s) (every (λ x. ltb x (10 ^ n)) s) b.1 in
       (leb-true (length s) 8192 a.0, b.0, c.0, c.1)
 
--- a PAN of another length, and one of the list's
-module _ (s : List ℕ) (n : ℕ) (pan : List ℕ) where
-  pub other_length : (length pan ≡ n → ⊥) → listed s n pan ≡ false
-  unfolding listed
-  other_length ne = rw (ne_eqb (length pan) n ne)
-
-  pub same_length : length pan ≡ n → listed s n pan ≡ stands (decimal pan) s
-  unfolding listed
-  same_length e = rw (eq-eqb (length pan) n e)
-
-  -- the question
-  pub bad_list : list_ok s n ≡ false → hot_rule s n pan ≡ refuses 21
-  unfolding hot_rule
-  bad_list t = rw t
-
-  module _ (t : list_ok s n ≡ true) where
-    pub bad_count : pan_length (length pan) ≡ false → hot_rule s n pan ≡ refuses 2
-    unfolding hot_rule
-    bad_count l = rw (t, l)
-
-    module _ (l : pan_length (length pan) ≡ true) where
-      pub bad_byte : all_digits pan ≡ false → hot_rule s n pan ≡ refuses 3
-      unfolding hot_rule
-      bad_byte d = rw (t, l, d)
-
-      pub answered : all_digits pan ≡ true → (b : Bool) → listed s n pan ≡ b → hot_rule s n pan ≡ gives b
-      unfolding hot_rule
-      answered d b e = rw (t, l, d, e)
+-- a PAN of the list's length
+pub same_length : (s : List ℕ) (n : ℕ) (pan : List ℕ) → length pan ≡ n → listed s n pan ≡ stands (decimal pan) s
+unfolding listed
+same_length s n pan e = rw (eq-eqb (length pan) n e)

@@ -2,10 +2,8 @@
 use Rattle.std.specs.Prelude.{ℕ, ◌^◌, ◌<◌, ◌≡◌, Bool, true, false, ◌&&◌, ◌||◌, List, [], ◌∷◌, leb, ltb, eqb, length, get_or}
 use Rattle.text.specs.Bytes.{every, all_digits}
 use Rattle.text.specs.Numbers.{decimal}
-use Rattle.reasons.specs.Reasons.{Outcome, gives, refuses, demand, number_of}
+use Rattle.reasons.specs.Reasons.{Outcome, gives, demand}
 use Rattle.pan.specs.Pan.{pan_length}
-use Rattle.hotlist.specs.declared.Found.{Found}
-use Rattle.hotlist.specs.declared.Found.TheVariants.{Listed, Unlisted, Refused}
 
 -- "rising strictly": each number is below the next
 unfoldable pub rises : List ℕ → Bool
@@ -33,12 +31,6 @@ hot_rule s n pan =
     (demand (pan_length (length pan)) 2
     (demand (all_digits pan) 3
     (gives (listed s n pan))))
-
--- what the cases of the answer say in the paper's terms
-abbrev pub said_found : Found → Outcome Bool
-said_found Listed = gives true
-said_found Unlisted = gives false
-said_found (Refused r) = refuses (number_of r)
 
 -- x has a place in the list: what the laws say of `stands`
 pub record Place (x : ℕ) (s : List ℕ) : Type 0 where

@@ -1,24 +1,8 @@
 // For the crates above: the list's check, and the search in a list that passed it.
-ghost use Rattle.std.specs.Prelude.{◌≡◌, true, ◌^◌, ◌≤◌, length};
+ghost use Rattle.std.specs.Prelude.{◌≡◌, true, ◌≤◌, length};
 ghost use Rattle.text.specs.Bytes.{all_digits};
 ghost use Rattle.pan.specs.Pan.{pan_length};
 ghost use Rattle.hotlist.specs.Hotlist.{rises, list_ok, stands, listed};
-
-// The least number that is too large for so many digits.
-fn too_large(digits: u32) -> u64
-    requires { pan_length digits ≡ true }
-    ensures { result ≡ 10 ^ digits }
-{
-    match digits {
-        13 => 10000000000000,
-        14 => 100000000000000,
-        15 => 1000000000000000,
-        16 => 10000000000000000,
-        17 => 100000000000000000,
-        18 => 1000000000000000000,
-        _ => 10000000000000000000,
-    }
-}
 
 // Whether each number is below the next. Looks at every number, with no way out in between, as text::all_digits does.
 fn rises(list: &[u64]) -> bool
@@ -26,20 +10,18 @@ fn rises(list: &[u64]) -> bool
     ensures { result ≡ rises list.now }
 {
     let mut rising = true;
-    let mut i = 1;
-    while i < list.len() {
+    for i in 1..list.len() {
         rising = rising & (list[i - 1] < list[i]);
-        i += 1;
     }
     rising
 }
 
 // Whether the list and its PAN length are allowed. Of a list that rises the last number is the largest.
+#[tactic(auto, unfolding(crate::specs::Hotlist::list_ok))]
 pub fn list_ok(list: &[u64], digits: u32) -> bool
     ensures { result ≡ list_ok list.now digits }
 {
-    let count = list.len();
-    if 8192 < count {
+    if 8192 < list.len() {
         return false;
     }
     if digits < 13 {
@@ -51,10 +33,10 @@ pub fn list_ok(list: &[u64], digits: u32) -> bool
     if !rises(list) {
         return false;
     }
-    if count == 0 {
-        return true;
+    match list.last() {
+        None => true,
+        Some(&last) => last < 10u64.pow(digits),
     }
-    list[count - 1] < too_large(digits)
 }
 
 // What a search says: whether the number stands in the list, and how many numbers were looked at.
@@ -92,12 +74,10 @@ fn search(list: &[u64], x: u64) -> Searched
 }
 
 // Whether a PAN is in a list that passed.
+#[tactic(auto, unfolding(crate::specs::Hotlist::listed))]
 pub fn is_listed(list: &[u64], digits: u32, pan: &[u8]) -> bool
     requires { (list_ok list.now digits ≡ true) × (pan_length (length pan.now) ≡ true) × (all_digits pan.now ≡ true) }
     ensures { result ≡ listed list.now digits pan.now }
 {
-    if pan.len() as u32 != digits {
-        return false;
-    }
-    search(list, text::decimal(pan)).found
+    pan.len() as u32 == digits && search(list, text::decimal(pan)).found
 }

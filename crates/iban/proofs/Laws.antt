@@ -11,7 +11,8 @@ use lib.ListN.{length, get_or, set, take, drop, length-drop, take-append-drop}
 use lib.Seq.{get_or-take, length-take-le}
 use borrow.Author.Tests.{eq-eqb, eqb-true}
 use Rattle.reasons.specs.Reasons.{gives, refuses, said}
-use Rattle.reasons.specs.declared.Tested.{Tested}
+use Rattle.reasons.specs.declared.Reason.{Reason}
+use Rattle.std.specs.Prelude.{Result, is_some}
 use Rattle.reasons.proofs.Laws.{said_one}
 use Rattle.text.specs.Bytes.{bytes_of, within, is_digit, is_capital, every, swap}
 use Rattle.text.specs.Numbers.{decimal_after}
@@ -19,14 +20,14 @@ use Rattle.text.proofs.Every.{every_left, every_right}
 use Rattle.text.proofs.Tests.{inside, inside_is, both_true}
 use Rattle.mod97.specs.Kinds.{Digit, Capital, SameKind, Mixed, Unseen}
 use Rattle.mod97.specs.Text.{number, in_decimal, written, number_after}
-use Rattle.mod97.specs.Pair.{leaves, pair_digits, pair_of, checks, paired, pair_for, said_made}
-use Rattle.mod97.specs.declared.Made.{Made}
+use Rattle.mod97.specs.Pair.{leaves, pair_digits, pair_of, checks, paired, pair_for}
 use Rattle.mod97.proofs.Refusals.{Sound}
 use Rattle.mod97.proofs.Refusals as refusals
 use Rattle.mod97.proofs.Standard.{AllYes, answers, goes_on, making}
 use Rattle.mod97.proofs.Standard as standards
-use Rattle.mod97.proofs.Pairs.{kept, pair_digits_kept, digit_is, pair_digits_is, made-within, pair_is_made, said_made_one}
-use Rattle.countries.specs.Countries.{kind_n, kind_fits, table, listed_in, row_in, listed, runs_of, kinds_of, fits, in_run_of_c}
+use Rattle.mod97.proofs.Pairs.{kept, pair_digits_kept, digit_is, pair_digits_is, made-within, pair_is_made}
+use Rattle.countries.specs.Countries.{kind_fits, table, runs_in, row_of, listed, runs_of, kinds_of, fits, in_run_of_c}
+use Rattle.countries.specs.declared.Kind.TheVariants.{Digits}
 use Rattle.iban.specs.Iban.{is_allowed, all_allowed, laid_out, iban_rule, make_rule}
 use Rattle.iban.proofs.Rule.{standard, make_answers}
 use Rattle.iban.proofs.Places.{fits-swap, drop-swap, both_c}
@@ -34,12 +35,12 @@ use Rattle.iban.proofs.Places.{fits-swap, drop-swap, both_c}
 -- ---- one answer
 
 -- any two answers that the promise of `test` allows are equal
-pub test_one : (s : List ℕ) (r q : Tested) → said r ≡ iban_rule s → said q ≡ iban_rule s → r ≡ q
+pub test_one : (s : List ℕ) (r q : Result (Unit {0}) Reason) → said r ≡ iban_rule s → said q ≡ iban_rule s → r ≡ q
 test_one s r q e f = said_one r q (e ∙ sym f)
 
 -- and so for `make`
-pub make_one : (t s : List ℕ) (r q : Made) → said_made r ≡ make_rule t s → said_made q ≡ make_rule t s → r ≡ q
-make_one t s r q e f = said_made_one r q (e ∙ sym f)
+pub make_one : (t s : List ℕ) (r q : Result ℕ Reason) → said r ≡ make_rule t s → said q ≡ make_rule t s → r ≡ q
+make_one t s r q e f = said_one r q (e ∙ sym f)
 
 -- ---- accepted texts
 
@@ -67,10 +68,10 @@ exchange_refused = refusals.exchange_refused iban_rule sound
 -- texts that begin with the same letters have the same country
 module _ (t s : List ℕ) (e : get_or t 0 0 ≡ get_or s 0 0) (f : get_or t 1 0 ≡ get_or s 1 0) where
   same_listed : listed t ≡ listed s
-  same_listed = λ j. listed_in table (e j) (f j)
+  same_listed = λ j. is_some (row_of table (e j) (f j))
 
   same_fits : (body : List ℕ) → fits (kinds_of (runs_of t)) body ≡ fits (kinds_of (runs_of s)) body
-  same_fits body = λ j. fits (kinds_of (row_in table (e j) (f j)).runs) body
+  same_fits body = λ j. fits (kinds_of (runs_in (row_of table (e j) (f j)))) body
 
 -- an exchange between two places of one kind leaves country and layout as they were
 module _ (s : List ℕ) (m n : ℕ) (hm : 4 + m < length s) (hn : 4 + n < length s) where
@@ -80,7 +81,7 @@ module _ (s : List ℕ) (m n : ℕ) (hm : 4 + m < length s) (hn : 4 + n < length
   country_kept : listed (swap s (4 + m) (4 + n)) ≡ listed s
   country_kept = same_listed (swap s (4 + m) (4 + n)) s (first_kept 0 (omega arith)) (first_kept 1 (omega arith))
 
-  layout_kept : get_or (kinds_of (runs_of s)) m kind_n ≡ get_or (kinds_of (runs_of s)) n kind_n → laid_out s ≡ true → laid_out (swap s (4 + m) (4 + n)) ≡ true
+  layout_kept : get_or (kinds_of (runs_of s)) m Digits ≡ get_or (kinds_of (runs_of s)) n Digits → laid_out s ≡ true → laid_out (swap s (4 + m) (4 + n)) ≡ true
   unfolding laid_out
   layout_kept e o =
       let t = swap s (4 + m) (4 + n) in
@@ -106,7 +107,7 @@ neighbours_accepted s m p run h k =
 
 -- "A digit turned into a capital may go unfound."
 pub digit_to_capital_unfound : (s : List ℕ) × (i : ℕ) × (d : ℕ) × (iban_rule s ≡ gives tt) × Digit (get_or s i 0) × Capital d × (iban_rule (set s i d) ≡ gives tt)
-unfolding iban_rule laid_out checks pair_of pair_digits is_digit is_capital every kind_fits table listed_in row_in kinds_of fits number_after written in_decimal number decimal_after
+unfolding iban_rule laid_out checks pair_of pair_digits is_digit is_capital every kind_fits table row_of kinds_of fits number_after written in_decimal number decimal_after
 digit_to_capital_unfound = (bytes_of "FR1420041010050500013M02606", 15, code "Q", refl, refl, refl, refl)
 
 -- ---- the pair
@@ -175,5 +176,5 @@ abbrev LeavesOneRefused : List ℕ → Type 0
 LeavesOneRefused s = (leaves s ≡ 1) × (iban_rule s ≡ refuses 4)
 
 pub leaves_one_refused : LeavesOneRefused (bytes_of "DE00370400440532000052") × LeavesOneRefused (bytes_of "DE01370400440532000034") × LeavesOneRefused (bytes_of "DE99370400440532000016")
-unfolding iban_rule laid_out checks pair_of pair_digits is_digit is_capital every kind_fits table listed_in row_in kinds_of fits number_after written in_decimal number decimal_after
+unfolding iban_rule laid_out checks pair_of pair_digits is_digit is_capital every kind_fits table row_of kinds_of fits number_after written in_decimal number decimal_after
 leaves_one_refused = ((refl, refl), (refl, refl), (refl, refl))

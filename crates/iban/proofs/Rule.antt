@@ -1,19 +1,17 @@
--- What an IBAN asks, as mod97's laws of a standard take it, and its layout as the code tests it.
+-- What an IBAN asks, as mod97's laws of a standard take it, and its body as the code cuts it.
 use Prim.Native.Nat.{ℕ, ◌-◌}
-use mathlib.Core.Path.{◌≡◌, ap, ◌∙◌}
-use mathlib.Core.Bool.{true, false, ◌&&◌}
+use mathlib.Core.Path.{◌≡◌}
+use mathlib.Core.Bool.{◌&&◌}
 use mathlib.Core.List.{List}
 use native.Mathlib.Omega.{arith}
 use lib.Dec.{eqb}
-use lib.ListN.{length, get_or, take, drop, length-drop}
+use lib.ListN.{length, take, drop, length-drop}
 use lib.Seq.{take_all}
 use Rattle.text.specs.Bytes.{within}
-use Rattle.mod97.specs.Pair.{pair_digits}
 use Rattle.mod97.proofs.Standard.{Answers, Standard}
-use Rattle.countries.specs.Countries.{table, row_in, listed, runs_of, kinds_of, fits}
-use Rattle.countries.specs.Stored.{stored, fits_stored}
+use Rattle.countries.specs.Countries.{listed, runs_of, kinds_of, fits}
+use Rattle.countries.proofs.Fits.{row_fits, none_listed}
 use Rattle.iban.specs.Iban.{is_allowed, all_allowed, laid_out}
-use Rattle.countries.proofs.Fits.{row_fits}
 
 abbrev pub standard : Standard
 standard = record { low = 5; high = 34; allows = is_allowed; lists = listed; lays = laid_out }
@@ -26,18 +24,9 @@ make_answers t s = record {
   layout = fits (kinds_of (runs_of t)) s;
 }
 
-module _ (s : List ℕ) where
-  pub no_pair_digits : pair_digits s ≡ false → laid_out s ≡ false
-  unfolding laid_out
-  no_pair_digits d = simp d
+-- what stands behind the first four bytes, as the code cuts it
+pub behind_four : (s : List ℕ) → take (length s - 4) (drop 4 s) ≡ drop 4 s
+behind_four s = take_all (length s - 4) (drop 4 s) (omega (arith, length-drop 4 s))
 
-  pub laid_out_is : pair_digits s ≡ true → laid_out s ≡ fits (kinds_of (runs_of s)) (drop 4 s)
-  unfolding laid_out
-  laid_out_is d = simp d
-
-  -- the code's test of the row that it found, on what stands behind the first four bytes
-  pub row_says : (r : List ℕ) → r ≡ stored (row_in table (get_or s 0 0) (get_or s 1 0))
-      → fits_stored r (take (length s - 4) (drop 4 s)) ≡ fits (kinds_of (runs_of s)) (drop 4 s)
-  row_says r e =
-      ap (fits_stored r) (take_all (length s - 4) (drop 4 s) (omega (arith, length-drop 4 s)))
-      ∙ row_fits (get_or s 0 0) (get_or s 1 0) r (drop 4 s) e
+-- what the code's row says of a country, and of a body
+pub ruleset row_laws = (row_fits, none_listed, behind_four)

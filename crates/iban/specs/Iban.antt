@@ -3,11 +3,12 @@ use Rattle.std.specs.Prelude.{ℕ, Bool, ◌&&◌, List, eqb, length, drop}
 use Rattle.reasons.specs.Reasons.{Outcome, gives, demand}
 use Rattle.text.specs.Bytes.{within, every}
 use Rattle.mod97.specs.Pair.{pair_digits, checks, pair_for}
-use Rattle.countries.specs.Countries.{kind_c, kind_fits, listed, runs_of, kinds_of, fits}
+use Rattle.countries.specs.Countries.{kind_fits, listed, runs_of, kinds_of, fits}
+use Rattle.countries.specs.declared.Kind.TheVariants.{Either}
 
--- "each byte a digit or capital": what kind c takes
+-- "each byte a digit or capital": what a place of kind c takes
 abbrev pub is_allowed : ℕ → Bool
-is_allowed b = kind_fits kind_c b
+is_allowed b = kind_fits Either b
 
 abbrev pub all_allowed : List ℕ → Bool
 all_allowed s = every is_allowed s

@@ -3,79 +3,65 @@
 
 ghost use Rattle.std.specs.Prelude.{◌≡◌};
 ghost use Rattle.reasons.specs.Reasons.{said};
-ghost use Rattle.mod97.specs.Pair.{said_made};
 ghost use Rattle.iban.specs.Iban.{all_allowed, iban_rule, make_rule};
 
-use mod97::Made;
-use reasons::{Reason, Tested};
+use countries::Kind;
+use reasons::Reason;
 
 // Whether every byte may stand in an IBAN.
 fn all_allowed(s: &[u8]) -> bool
     ensures { result ≡ all_allowed s.now }
 {
-    countries::all_fit(b'c', s)
+    countries::all_fit(Kind::Either, s)
 }
 
 // Whether a text is an IBAN whose pair passes.
-pub fn test(text: &[u8]) -> Tested
+#[tactic(auto, using(crate::proofs::Rule::row_laws), unfolding(crate::specs::Iban::iban_rule, crate::specs::Iban::laid_out))]
+pub fn test(text: &[u8]) -> Result<(), Reason>
     ensures { said result ≡ iban_rule text.now }
 {
     let n = text.len();
-    if n < 5 {
-        return Tested::Refused(Reason::BadCount);
-    }
-    if 34 < n {
-        return Tested::Refused(Reason::BadCount);
+    if n < 5 || 34 < n {
+        return Err(Reason::BadCount);
     }
     if !all_allowed(text) {
-        return Tested::Refused(Reason::BadByte);
+        return Err(Reason::BadByte);
     }
-    let found = countries::find(text[0], text[1]);
-    let known = found.known;
-    if !known {
-        return Tested::Refused(Reason::UnknownCountry);
-    }
+    let Some(row) = countries::find(text[0], text[1]) else {
+        return Err(Reason::UnknownCountry);
+    };
     if !mod97::inner::pair_digits(text) {
-        return Tested::Refused(Reason::WrongLayout);
+        return Err(Reason::WrongLayout);
     }
-    let row = found.row;
     if !countries::fits_row(row, &text[4..]) {
-        return Tested::Refused(Reason::WrongLayout);
+        return Err(Reason::WrongLayout);
     }
     if !mod97::inner::checks_out(text) {
-        return Tested::Refused(Reason::WrongCheck);
+        return Err(Reason::WrongCheck);
     }
-    Tested::Passes
+    Ok(())
 }
 
 // The check pair of a country and a body.
-pub fn make(country: &[u8], body: &[u8]) -> Made
-    ensures { said_made result ≡ make_rule country.now body.now }
+#[tactic(auto, using(crate::proofs::Rule::row_laws), unfolding(crate::specs::Iban::make_rule))]
+pub fn make(country: &[u8], body: &[u8]) -> Result<u32, Reason>
+    ensures { said result ≡ make_rule country.now body.now }
 {
     if country.len() != 2 {
-        return Made::Refused(Reason::BadCount);
+        return Err(Reason::BadCount);
     }
     let n = body.len();
-    if n < 1 {
-        return Made::Refused(Reason::BadCount);
+    if n < 1 || 30 < n {
+        return Err(Reason::BadCount);
     }
-    if 30 < n {
-        return Made::Refused(Reason::BadCount);
+    if !all_allowed(country) || !all_allowed(body) {
+        return Err(Reason::BadByte);
     }
-    if !all_allowed(country) {
-        return Made::Refused(Reason::BadByte);
-    }
-    if !all_allowed(body) {
-        return Made::Refused(Reason::BadByte);
-    }
-    let found = countries::find(country[0], country[1]);
-    let known = found.known;
-    if !known {
-        return Made::Refused(Reason::UnknownCountry);
-    }
-    let row = found.row;
+    let Some(row) = countries::find(country[0], country[1]) else {
+        return Err(Reason::UnknownCountry);
+    };
     if !countries::fits_row(row, body) {
-        return Made::Refused(Reason::WrongLayout);
+        return Err(Reason::WrongLayout);
     }
-    Made::Pair(mod97::inner::pair_for(country, body))
+    Ok(mod97::inner::pair_for(country, body))
 }

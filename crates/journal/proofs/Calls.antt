@@ -1,4 +1,5 @@
 -- What the promises of book and release say of the held list: the laws that a history of calls cites.
+use Rattle.std.proofs.Common.{Some, Err}
 use Prim.Native.Nat.{ℕ, ◌≤◌, ◌<◌, ◌+◌, ◌-◌, ◌/◌}
 use mathlib.Core.Path.{◌≡◌, refl, sym, ap, ◌∙◌, subst, subst⁻¹}
 use mathlib.Core.Bool.{false, not}
@@ -17,25 +18,23 @@ use Rattle.pan.specs.Pan.{pan_length}
 use Rattle.slots.specs.Record.{record32}
 use Rattle.slots.specs.Journal.{place, Formed, NewestIs, slots_of}
 use Rattle.held.specs.Held.{low_of, held_after, held_up_to, held_list, sum_of}
-use Rattle.journal.specs.Rules.{full, book_rule, book_bytes, release_rule, release_bytes, freed_after, Tally, Books, Releases}
+use Rattle.journal.specs.Rules.{full, book_rule, book_bytes, release_rule, release_bytes, freed_after, Books, Releases}
 use Rattle.journal.proofs.Rule.{Fine, same_after, new_after}
 use Rattle.journal.proofs.Lists.{book_held, after_length}
 use Rattle.journal.proofs.Freed.{release_held, all_length}
 use Rattle.journal.proofs.Kept.{book_formed, release_formed}
-use Rattle.slots.specs.declared.Newest.TheVariants.{Is}
 use Rattle.reasons.specs.declared.Reason.{Reason}
-use Rattle.journal.specs.declared.Booked.TheVariants as booked
-use Rattle.journal.specs.declared.Released.TheVariants as released
+use Rattle.journal.specs.declared.Released.{Released}
 
 -- ---- a refusal changes nothing
 
-pub book_refused : (j pan : List ℕ) (label amount clock : ℕ) (x : Reason) (k : List ℕ) → Books j pan label amount clock (booked.Refused x) k → k ≡ j
+pub book_refused : (j pan : List ℕ) (label amount clock : ℕ) (x : Reason) (k : List ℕ) → Books j pan label amount clock (Err x) k → k ≡ j
 unfolding book_bytes
 book_refused j pan label amount clock x k w = w.so.1 ∙ sym (same_after j (λ s. put j (place (slots_of j) s) (record32 s clock amount label pan)) w.so.0)
 
-pub release_refused : (j : List ℕ) (s : ℕ) (x : Reason) (k : List ℕ) → Releases j s (released.Refused x) k → k ≡ j
+pub release_refused : (j : List ℕ) (s : ℕ) (x : Reason) (k : List ℕ) → Releases j s (Err x) k → k ≡ j
 unfolding release_bytes
-release_refused j s x k w = w.so.1 ∙ sym (same_after {A = Tally} j (λ _. freed_after j (slots_of j) (low_of j _) (s - low_of j _)) w.so.0)
+release_refused j s x k w = w.so.1 ∙ sym (same_after {A = Released} j (λ _. freed_after j (slots_of j) (low_of j _) (s - low_of j _)) w.so.0)
 
 -- ---- what a booking that is not refused had and did
 
@@ -46,7 +45,7 @@ pub record Booking (j pan : List ℕ) (label amount b s : ℕ) : Type 0 where
   pub room : full j ≡ false
   pub serial : s ≡ b + 1
 
-pub booking_of : (j pan : List ℕ) (label amount b s : ℕ) → gives s ≡ book_rule (Is b) j pan label amount → Booking j pan label amount b s
+pub booking_of : (j pan : List ℕ) (label amount b s : ℕ) → gives s ≡ book_rule (Some b) j pan label amount → Booking j pan label amount b s
 unfolding book_rule
 booking_of j pan label amount b s e =
     let a1 = passed (pan_length (length pan)) 2 _ s (sym e) in
@@ -74,11 +73,11 @@ pub record Booked_so (j pan : List ℕ) (label amount clock b s : ℕ) (k : List
   pub serial : s ≡ b + 1
   pub fits : s < 4294967296
   pub length_same : length k ≡ length j
-  pub newest : NewestIs k (Is s)
+  pub newest : NewestIs k (Some s)
   pub held : held_list k s ≡ held_list j b ++ (record32 s clock amount label pan ∷ [])
 
 pub book_changes : (j pan : List ℕ) (label amount clock b s : ℕ) (k : List ℕ) → Formed j (slots_of j) b → b < 4294967296 → amount < 4294967296
-    → gives s ≡ book_rule (Is b) j pan label amount → k ≡ book_bytes (Is b) j pan label amount clock → Booked_so j pan label amount clock b s k
+    → gives s ≡ book_rule (Some b) j pan label amount → k ≡ book_bytes (Some b) j pan label amount clock → Booked_so j pan label amount clock b s k
 unfolding book_bytes
 book_changes j pan label amount clock b s k f fit small e w =
     let g = booking_of j pan label amount b s e in
@@ -105,21 +104,21 @@ book_changes j pan label amount clock b s k f fit small e w =
 -- releasing in a journal with newest serial b: the newest stays, and what was held is what was released, whose count and sum are answered, and what is held after
 pub record Released_so (j : List ℕ) (b s c y : ℕ) (k : List ℕ) : Type 0 where
   pub length_same : length k ≡ length j
-  pub newest : NewestIs k (Is b)
+  pub newest : NewestIs k (Some b)
   pub there : s ≤ b
   pub count : c ≡ length (held_up_to j b s)
   pub sum : y ≡ sum_of (held_up_to j b s)
   pub held : held_up_to j b s ++ held_list k b ≡ held_list j b
 
 pub release_changes : (j : List ℕ) (b s c y : ℕ) (k : List ℕ) → Formed j (slots_of j) b
-    → ◌≡◌ {A = Outcome Tally} (gives (record { count = c; sum = y })) (release_rule (Is b) j s) → k ≡ release_bytes (Is b) j s → Released_so j b s c y k
+    → ◌≡◌ {A = Outcome Released} (gives (record { count = c; sum = y })) (release_rule (Some b) j s) → k ≡ release_bytes (Some b) j s → Released_so j b s c y k
 unfolding release_bytes release_rule
 release_changes j b s c y k f e w =
     let a = passed (within 1 b s) 20 (gives (record { count = length (held_up_to j b s); sum = sum_of (held_up_to j b s) })) (record { count = c; sum = y }) (sym e) in
     let r = inside_is 1 b s a.0 in
-    let t : ◌≡◌ {A = Tally} (record { count = length (held_up_to j b s); sum = sum_of (held_up_to j b s) }) (record { count = c; sum = y }) = cc a.1 in
+    let t : ◌≡◌ {A = Released} (record { count = length (held_up_to j b s); sum = sum_of (held_up_to j b s) }) (record { count = c; sum = y }) = cc a.1 in
     let bytes : k ≡ freed_after j (slots_of j) (low_of j b) (s - low_of j b) = w ∙ sym (new_after j (λ _. freed_after j (slots_of j) (low_of j b) (s - low_of j b)) e) in
-    so bytes r.1 (sym (ap (λ (x : Tally). x.count) t)) (sym (ap (λ (x : Tally). x.sum) t))
+    so bytes r.1 (sym (ap (λ (x : Released). x.count) t)) (sym (ap (λ (x : Released). x.sum) t))
   where
     so : k ≡ freed_after j (slots_of j) (low_of j b) (s - low_of j b) → s ≤ b → c ≡ length (held_up_to j b s) → y ≡ sum_of (held_up_to j b s) → Released_so j b s c y k
     so q h ec ey =

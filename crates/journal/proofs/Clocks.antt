@@ -1,4 +1,5 @@
 -- "No call compares clocks": rules, answers and bytes of book and release on two journals that differ in clocks alone.
+use Rattle.std.proofs.Common.{Option, Some, None}
 use Prim.Native.Nat.{ℕ, zero, suc, ◌≤◌, ◌<◌, ◌+◌, ◌-◌, ◌*◌, ◌/◌, ◌%◌}
 use mathlib.Core.Path.{◌≡◌, refl, sym, ap, ◌∙◌, subst}
 use mathlib.Core.Bool.{Bool, true, false, cond, not, ◌&&◌, ◌||◌, or-true}
@@ -17,15 +18,14 @@ use Rattle.pan.specs.Pan.{pan_length}
 use Rattle.slots.specs.Record.{is_held, is_released, is_record, freed_state, state_at, record32}
 use Rattle.slots.specs.Journal.{slots_of, place, NewestIs, is_clock, SameButClocks}
 use Rattle.slots.specs.Views.{formed, newest}
-use Rattle.slots.specs.declared.Newest.{Newest}
-use Rattle.slots.specs.declared.Newest.TheVariants.{Malformed, Is}
 use Rattle.slots.proofs.Ranges.{differ}
 use Rattle.slots.proofs.States.{freed_released}
 use Rattle.slots.proofs.Ring.{place_in}
 use Rattle.slots.proofs.Records.{record_long, record_held}
 use Rattle.slots.proofs.Clocks.{slot_state}
 use Rattle.held.specs.Held.{low_of, SameRecord}
-use Rattle.journal.specs.Rules.{held_slots, full, book_rule, book_bytes, Tally, release_rule, release_bytes, freed_at, freed_after}
+use Rattle.journal.specs.declared.Released.{Released}
+use Rattle.journal.specs.Rules.{held_slots, full, book_rule, book_bytes, release_rule, release_bytes, freed_at, freed_after}
 use Rattle.journal.proofs.Rule.{book_bad}
 use Rattle.journal.proofs.Calls.{booking_of}
 use Rattle.journal.proofs.Freed.{freed_length, freed_other, freed_here, freed_byte}
@@ -42,13 +42,13 @@ module _ (j k : List ℕ) (w : SameButClocks j k) where
   same_full : full j ≡ full k
   same_full = held_slots_same j k (slots_of j) (λ i. ap is_held (slot_state j k w i)) ∙ ap (held_slots k) (slots_same j k w)
 
-  pub clock_book : (m : Newest) (pan : List ℕ) (label amount : ℕ) → book_rule m j pan label amount ≡ book_rule m k pan label amount
+  pub clock_book : (m : Option ℕ) (pan : List ℕ) (label amount : ℕ) → book_rule m j pan label amount ≡ book_rule m k pan label amount
   unfolding book_rule
   clock_book m pan label amount =
       ap (λ (t : Bool). demand (formed m) 16 (demand (pan_length (length pan)) 2 (demand (all_digits pan) 3 (demand (passes pan) 4
       (demand (not (eqb amount 0)) 17 (demand (not (eqb (newest m) 4294967295)) 19 (demand (not t) 18 (gives (newest m + 1))))))))) same_full
 
-  pub clock_release : (m : Newest) (s : ℕ) → release_rule m j s ≡ release_rule m k s
+  pub clock_release : (m : Option ℕ) (s : ℕ) → release_rule m j s ≡ release_rule m k s
   unfolding release_rule
   clock_release m s =
       let u = clock_up_to j k w (newest m) s in
@@ -98,15 +98,15 @@ put_clock j k r q x w h lr lq s st =
         ∙ sym (put_in k q (32 * x) hk o (omega arith)) ∙ ap (λ (y : ℕ). get_or (put k (32 * x) q) y 0) e
 
 -- a booking, with any two clock readings
-pub clock_book_bytes : (j k : List ℕ) → SameButClocks j k → (m : Newest) → NewestIs j m → (pan : List ℕ) (label amount c d : ℕ)
+pub clock_book_bytes : (j k : List ℕ) → SameButClocks j k → (m : Option ℕ) → NewestIs j m → (pan : List ℕ) (label amount c d : ℕ)
     → SameButClocks (book_bytes m j pan label amount c) (book_bytes m k pan label amount d)
 unfolding book_bytes
 clock_book_bytes j k w m is pan label amount c d = go (book_rule m j pan label amount) refl (book_rule m k pan label amount) (clock_book j k w m pan label amount)
   where
-    granted : (m : Newest) → NewestIs j m → (s : ℕ) → gives s ≡ book_rule m j pan label amount
+    granted : (m : Option ℕ) → NewestIs j m → (s : ℕ) → gives s ≡ book_rule m j pan label amount
         → SameButClocks (put j (place (slots_of j) s) (record32 s c amount label pan)) (put k (place (slots_of k) s) (record32 s d amount label pan))
-    granted Malformed i s e = gives_refuses s 16 (e ∙ sym (book_bad j pan label amount))
-    granted (Is b) f s e =
+    granted None i s e = gives_refuses s 16 (e ∙ sym (book_bad j pan label amount))
+    granted (Some b) f s e =
         let g = booking_of j pan label amount b s e in
         let long = g.pan_fine.count in
         subst (λ (n : ℕ). SameButClocks (put j (place (slots_of j) s) (record32 s c amount label pan)) (put k (place n s) (record32 s d amount label pan))) (slots_same j k w)
@@ -161,11 +161,11 @@ unfolding freed_after
 after_clock j k n low zero w = w
 after_clock j k n low (suc m) w = after_clock (freed_at j (place n (low + 1))) (freed_at k (place n (low + 1))) n (low + 1) m (free_clock j k ((low + 1 - 1) % n) w)
 
-pub clock_release_bytes : (j k : List ℕ) → SameButClocks j k → (m : Newest) (s : ℕ) → SameButClocks (release_bytes m j s) (release_bytes m k s)
+pub clock_release_bytes : (j k : List ℕ) → SameButClocks j k → (m : Option ℕ) (s : ℕ) → SameButClocks (release_bytes m j s) (release_bytes m k s)
 unfolding release_bytes
 clock_release_bytes j k w m s = go (release_rule m j s) (release_rule m k s) (clock_release j k w m s)
   where
-    go : (o p : Outcome Tally) → o ≡ p
+    go : (o p : Outcome Released) → o ≡ p
         → SameButClocks (after o j (λ _. freed_after j (slots_of j) (low_of j (newest m)) (s - low_of j (newest m)))) (after p k (λ _. freed_after k (slots_of k) (low_of k (newest m)) (s - low_of k (newest m))))
     go (refuses x) (refuses y) q = w
     go (refuses x) (gives t) q = gives_refuses t x (sym q)

@@ -1,4 +1,5 @@
 -- A power cut while a call's changed bytes are copied, in the order of its writes, to memory that outlives the power: after any number of them.
+use Rattle.std.proofs.Common.{Option, Some, None}
 use Prim.Native.Nat.{ℕ, zero, suc, ◌≤◌, ◌<◌, ◌+◌, ◌-◌, ◌*◌, ◌/◌, ◌%◌}
 use mathlib.Core.Path.{◌≡◌, refl, sym, ap, ◌∙◌, subst, subst⁻¹}
 use mathlib.Core.Bool.{Bool, true, false, cond}
@@ -17,15 +18,14 @@ use Rattle.slots.specs.Record.{is_held, freed_state, state_at, record32}
 use Rattle.slots.specs.Journal.{slots_of, place, state_of, Formed, NewestIs}
 use Rattle.slots.specs.Views.{newest}
 use Rattle.slots.specs.Writes.{Write, wrote, writes_from, record_writes}
-use Rattle.slots.specs.declared.Newest.{Newest}
-use Rattle.slots.specs.declared.Newest.TheVariants.{Malformed, Is}
 use Rattle.slots.proofs.Ranges.{differ}
 use Rattle.slots.proofs.Ring.{kept_at, place_in}
 use Rattle.slots.proofs.Form.{serial_le}
 use Rattle.slots.proofs.Records.{record_long, u32_in}
 use Rattle.slots.proofs.Writes.{wrote-length, first_writes, outside, state_last, wrote_put}
 use Rattle.held.specs.Held.{low_of, record_at, held_after, held_list}
-use Rattle.journal.specs.Rules.{held_slots, book_rule, book_bytes, book_writes, Tally, release_rule, release_bytes, release_writes, freed_at, freed_after, free_writes}
+use Rattle.journal.specs.declared.Released.{Released}
+use Rattle.journal.specs.Rules.{held_slots, book_rule, book_bytes, book_writes, release_rule, release_bytes, release_writes, freed_at, freed_after, free_writes}
 use Rattle.journal.proofs.Rule.{same_after, new_after, release_none, release_done, release_bad, book_bad}
 use Rattle.journal.proofs.Full.{next_full}
 use Rattle.held.proofs.Lists.{held_up, held_none}
@@ -150,17 +150,17 @@ slot_cut j r n b k f room h =
 untouched : (j : List ℕ) (n : ℕ) → SameHeld j j n
 untouched j n = record { states = λ x l. refl; bytes = λ x i l h m. refl }
 
-module _ (j pan : List ℕ) (label amount clock : ℕ) (m : Newest) (is : NewestIs j m) where
+module _ (j pan : List ℕ) (label amount clock : ℕ) (m : Option ℕ) (is : NewestIs j m) where
   cut_of : (k : ℕ) (o : Outcome ℕ) → o ≡ book_rule m j pan label amount → k < 32
       → SameHeld j (wrote j (take k (after o [] (λ s. record_writes (record32 s clock amount label pan) (place (slots_of j) s))))) (slots_of j)
   unfolding wrote
   cut_of k (refuses x) e h = subst⁻¹ (λ (ws : List Write). SameHeld j (wrote j ws) (slots_of j)) (take_none k) (untouched j (slots_of j))
   cut_of k (gives s) e h = granted m is e
     where
-      granted : (m : Newest) → NewestIs j m → gives s ≡ book_rule m j pan label amount
+      granted : (m : Option ℕ) → NewestIs j m → gives s ≡ book_rule m j pan label amount
           → SameHeld j (wrote j (take k (record_writes (record32 s clock amount label pan) (place (slots_of j) s)))) (slots_of j)
-      granted Malformed i q = gives_refuses s 16 (q ∙ sym (book_bad j pan label amount))
-      granted (Is b) f q =
+      granted None i q = gives_refuses s 16 (q ∙ sym (book_bad j pan label amount))
+      granted (Some b) f q =
           let g = booking_of j pan label amount b s q in
           subst⁻¹ (λ (x : ℕ). SameHeld j (wrote j (take k (record_writes (record32 s clock amount label pan) (place (slots_of j) x)))) (slots_of j)) g.serial
           (slot_cut j (record32 s clock amount label pan) (slots_of j) b k f g.room h)
@@ -177,10 +177,10 @@ module _ (j pan : List ℕ) (label amount clock : ℕ) (m : Newest) (is : Newest
   wrote_all (refuses x) e = refl
   wrote_all (gives s) e = granted m is e
     where
-      granted : (m : Newest) → NewestIs j m → gives s ≡ book_rule m j pan label amount
+      granted : (m : Option ℕ) → NewestIs j m → gives s ≡ book_rule m j pan label amount
           → wrote j (record_writes (record32 s clock amount label pan) (place (slots_of j) s)) ≡ put j (place (slots_of j) s) (record32 s clock amount label pan)
-      granted Malformed i q = gives_refuses s 16 (q ∙ sym (book_bad j pan label amount))
-      granted (Is b) f q =
+      granted None i q = gives_refuses s 16 (q ∙ sym (book_bad j pan label amount))
+      granted (Some b) f q =
           let g = booking_of j pan label amount b s q in
           wrote_put (record32 s clock amount label pan) (place (slots_of j) s) j (record_long s clock amount label pan g.pan_fine.count)
           (omega (arith, f.size, place_in (slots_of j) s f.least))
@@ -190,14 +190,14 @@ module _ (j pan : List ℕ) (label amount clock : ℕ) (m : Newest) (is : Newest
   book_writes_lem = wrote_all (book_rule m j pan label amount) refl
 
 -- "leaves a malformed journal or the held payments as they were"
-pub book_cut_held : (j pan : List ℕ) (label amount clock b c k : ℕ) → NewestIs j (Is b) → k < 32
-    → NewestIs (wrote j (take k (book_writes (Is b) j pan label amount clock))) (Is c)
-    → held_list (wrote j (take k (book_writes (Is b) j pan label amount clock))) c ≡ held_list j b
+pub book_cut_held : (j pan : List ℕ) (label amount clock b c k : ℕ) → NewestIs j (Some b) → k < 32
+    → NewestIs (wrote j (take k (book_writes (Some b) j pan label amount clock))) (Some c)
+    → held_list (wrote j (take k (book_writes (Some b) j pan label amount clock))) c ≡ held_list j b
 book_cut_held j pan label amount clock b c k f h g =
-    let v : List ℕ = wrote j (take k (book_writes (Is b) j pan label amount clock)) in
-    let en : slots_of v ≡ slots_of j = ap (λ (x : ℕ). x / 32) (wrote-length j (take k (book_writes (Is b) j pan label amount clock))) in
+    let v : List ℕ = wrote j (take k (book_writes (Some b) j pan label amount clock)) in
+    let en : slots_of v ≡ slots_of j = ap (λ (x : ℕ). x / 32) (wrote-length j (take k (book_writes (Some b) j pan label amount clock))) in
     ap (λ (n : ℕ). held_after v n (c - n) (c - (c - n))) en
-    ∙ same_held j v (slots_of j) b c (book_cut j pan label amount clock (Is b) f k h) f (subst (λ (n : ℕ). Formed v n c) en g)
+    ∙ same_held j v (slots_of j) b c (book_cut j pan label amount clock (Some b) f k h) f (subst (λ (n : ℕ). Formed v n c) en g)
 
 -- ---- a release cut short
 
@@ -268,20 +268,20 @@ unfolding freed_after
 freed_none j n low = refl
 
 -- a release that is not refused is of a serial that is there
-release_there : (j : List ℕ) (b s : ℕ) (v : Tally) → gives v ≡ release_rule (Is b) j s → s ≤ b
+release_there : (j : List ℕ) (b s : ℕ) (v : Released) → gives v ≡ release_rule (Some b) j s → s ≤ b
 unfolding release_rule
 release_there j b s v e = (inside_is 1 b s (passed (within 1 b s) 20 _ v (sym e)).0).1
 
 -- the release of serial 0 is refused
-release_zero : (m : Newest) (j : List ℕ) → j ≡ release_bytes m j 0
+release_zero : (m : Option ℕ) (j : List ℕ) → j ≡ release_bytes m j 0
 unfolding release_bytes
-release_zero Malformed j = same_after j (λ _. freed_after j (slots_of j) (low_of j 0) (0 - low_of j 0)) (release_bad j 0)
-release_zero (Is b) j = same_after j (λ _. freed_after j (slots_of j) (low_of j b) (0 - low_of j b)) (release_none j b 0 (under 1 b 0 (omega arith)))
+release_zero None j = same_after j (λ _. freed_after j (slots_of j) (low_of j 0) (0 - low_of j 0)) (release_bad j 0)
+release_zero (Some b) j = same_after j (λ _. freed_after j (slots_of j) (low_of j b) (0 - low_of j b)) (release_none j b 0 (under 1 b 0 (omega arith)))
 
 -- the release of p serials, in a journal that keeps those after low, is the release of one of them
-fewer : (j : List ℕ) (b s p : ℕ) → s ≤ b → p ≤ s - low_of j b → (t : ℕ) × (t ≤ s) × (wrote j (free_writes j (slots_of j) (low_of j b) p) ≡ release_bytes (Is b) j t)
+fewer : (j : List ℕ) (b s p : ℕ) → s ≤ b → p ≤ s - low_of j b → (t : ℕ) × (t ≤ s) × (wrote j (free_writes j (slots_of j) (low_of j b) p) ≡ release_bytes (Some b) j t)
 unfolding release_bytes
-fewer j b s zero h l = (0, omega arith, free_writes_lem j (slots_of j) (low_of j b) 0 (omega arith) ∙ freed_none j (slots_of j) (low_of j b) ∙ release_zero (Is b) j)
+fewer j b s zero h l = (0, omega arith, free_writes_lem j (slots_of j) (low_of j b) 0 (omega arith) ∙ freed_none j (slots_of j) (low_of j b) ∙ release_zero (Some b) j)
 fewer j b s (suc p) h l =
     let t : ℕ = low_of j b + suc p in
     let q : suc p ≡ t - low_of j b = omega arith in (
@@ -291,17 +291,17 @@ fewer j b s (suc p) h l =
           ∙ new_after j (λ _. freed_after j (slots_of j) (low_of j b) (t - low_of j b)) (release_done j b t (omega arith) (omega arith)),
     )
 
-module _ (m : Newest) (j : List ℕ) (s k : ℕ) where
-  cut_of_release : (o : Outcome Tally) → o ≡ release_rule m j s
+module _ (m : Option ℕ) (j : List ℕ) (s k : ℕ) where
+  cut_of_release : (o : Outcome Released) → o ≡ release_rule m j s
       → (t : ℕ) × (t ≤ s) × (wrote j (take k (after o [] (λ _. free_writes j (slots_of j) (low_of j (newest m)) (s - low_of j (newest m))))) ≡ release_bytes m j t)
   unfolding wrote
   cut_of_release (refuses x) e = (0, omega arith, ap (wrote j) (take_none k) ∙ release_zero m j)
   cut_of_release (gives v) e = granted m e
     where
-      granted : (m : Newest) → gives v ≡ release_rule m j s
+      granted : (m : Option ℕ) → gives v ≡ release_rule m j s
           → (t : ℕ) × (t ≤ s) × (wrote j (take k (free_writes j (slots_of j) (low_of j (newest m)) (s - low_of j (newest m)))) ≡ release_bytes m j t)
-      granted Malformed q = gives_refuses v 16 (q ∙ sym (release_bad j s))
-      granted (Is b) q =
+      granted None q = gives_refuses v 16 (q ∙ sym (release_bad j s))
+      granted (Some b) q =
           let w = first_frees j (slots_of j) (low_of j b) (s - low_of j b) k in
           let x = fewer j b s w.0 (release_there j b s v q) w.1 in
           (x.0, x.1, ap (wrote j) w.2 ∙ x.2)
@@ -312,12 +312,12 @@ module _ (m : Newest) (j : List ℕ) (s k : ℕ) where
   release_cut = cut_of_release (release_rule m j s) refl
 
 -- the writes, all of them, are what the release leaves
-pub release_writes_lem : (m : Newest) (j : List ℕ) (s : ℕ) → NewestIs j m → wrote j (release_writes m j s) ≡ release_bytes m j s
+pub release_writes_lem : (m : Option ℕ) (j : List ℕ) (s : ℕ) → NewestIs j m → wrote j (release_writes m j s) ≡ release_bytes m j s
 unfolding release_writes release_bytes wrote
 release_writes_lem m j s is = go m is (release_rule m j s) refl
   where
-    go : (m : Newest) → NewestIs j m → (o : Outcome Tally) → o ≡ release_rule m j s
+    go : (m : Option ℕ) → NewestIs j m → (o : Outcome Released) → o ≡ release_rule m j s
         → wrote j (after o [] (λ _. free_writes j (slots_of j) (low_of j (newest m)) (s - low_of j (newest m)))) ≡ after o j (λ _. freed_after j (slots_of j) (low_of j (newest m)) (s - low_of j (newest m)))
     go m i (refuses x) e = refl
-    go Malformed i (gives v) e = gives_refuses v 16 (e ∙ sym (release_bad j s))
-    go (Is b) f (gives v) e = let h = release_there j b s v e in free_writes_lem j (slots_of j) (low_of j b) (s - low_of j b) (omega arith)
+    go None i (gives v) e = gives_refuses v 16 (e ∙ sym (release_bad j s))
+    go (Some b) f (gives v) e = let h = release_there j b s v e in free_writes_lem j (slots_of j) (low_of j b) (s - low_of j b) (omega arith)

@@ -1,4 +1,5 @@
 -- Laws for the radio: releases repeated, out of order, and what they never do.
+use Rattle.std.proofs.Common.{Some}
 use Prim.Native.Nat.{ℕ, zero, suc, ◌≤◌, ◌<◌, ◌+◌, ◌-◌, ◌/◌}
 use mathlib.Core.Path.{◌≡◌, refl, sym, ap, ◌∙◌}
 use mathlib.Core.Bool.{Bool, true, false, cond}
@@ -10,7 +11,6 @@ use lib.Seq.{set_comm}
 use Rattle.reasons.specs.Reasons.{gives}
 use Rattle.slots.specs.Record.{is_held, freed_state, state_at}
 use Rattle.slots.specs.Journal.{slots_of, state_of, place, Formed}
-use Rattle.slots.specs.declared.Newest.TheVariants.{Is}
 use Rattle.slots.proofs.Ranges.{differ}
 use Rattle.slots.proofs.States.{free_not_held}
 use Rattle.held.specs.Held.{low_of, held_after, held_up_to, sum_of}
@@ -92,23 +92,23 @@ module _ (n : ℕ) where
 -- ---- the calls
 
 -- what a release that is not refused leaves
-pub freed_bytes : (j : List ℕ) (b s : ℕ) → 1 ≤ s → s ≤ b → release_bytes (Is b) j s ≡ freed_after j (slots_of j) (low_of j b) (s - low_of j b)
+pub freed_bytes : (j : List ℕ) (b s : ℕ) → 1 ≤ s → s ≤ b → release_bytes (Some b) j s ≡ freed_after j (slots_of j) (low_of j b) (s - low_of j b)
 unfolding release_bytes
 freed_bytes j b s l h = sym (new_after j (λ _. freed_after j (slots_of j) (low_of j b) (s - low_of j b)) (release_done j b s l h))
 
 module _ (j : List ℕ) (b s t : ℕ) (l : 1 ≤ s) (le : s ≤ t) (h : t ≤ b) where
-  slots_stay : (u : ℕ) → 1 ≤ u → u ≤ b → slots_of (release_bytes (Is b) j u) ≡ slots_of j
+  slots_stay : (u : ℕ) → 1 ≤ u → u ≤ b → slots_of (release_bytes (Some b) j u) ≡ slots_of j
   slots_stay u a c = ap (λ (k : List ℕ). slots_of k) (freed_bytes j b u a c) ∙ ap (λ (x : ℕ). x / 32) (all_length j (slots_of j) (low_of j b) (u - low_of j b))
 
   -- the one release after the other, over the slots and serials of the first journal
   one_more : (u v : ℕ) → 1 ≤ u → u ≤ b → 1 ≤ v → v ≤ b
-      → release_bytes (Is b) (release_bytes (Is b) j u) v ≡ freed_after (freed_after j (slots_of j) (low_of j b) (u - low_of j b)) (slots_of j) (low_of j b) (v - low_of j b)
+      → release_bytes (Some b) (release_bytes (Some b) j u) v ≡ freed_after (freed_after j (slots_of j) (low_of j b) (u - low_of j b)) (slots_of j) (low_of j b) (v - low_of j b)
   one_more u v a c d e =
-      freed_bytes (release_bytes (Is b) j u) b v d e
+      freed_bytes (release_bytes (Some b) j u) b v d e
       ∙ (λ i. freed_after (freed_bytes j b u a c i) (slots_stay u a c i) (b - slots_stay u a c i) (v - (b - slots_stay u a c i)))
 
   -- "releases in any order leave what the highest alone would leave"
-  pub lower_then_higher : release_bytes (Is b) (release_bytes (Is b) j s) t ≡ release_bytes (Is b) j t
+  pub lower_then_higher : release_bytes (Some b) (release_bytes (Some b) j s) t ≡ release_bytes (Some b) j t
   lower_then_higher =
       let q : t - low_of j b ≡ s - low_of j b + (t - low_of j b - (s - low_of j b)) = omega arith in
       one_more s t l (omega arith) (omega arith) h
@@ -116,7 +116,7 @@ module _ (j : List ℕ) (b s t : ℕ) (l : 1 ≤ s) (le : s ≤ t) (h : t ≤ b)
       ∙ longer_last (slots_of j) j (low_of j b) (s - low_of j b) (t - low_of j b - (s - low_of j b))
       ∙ ap (freed_after j (slots_of j) (low_of j b)) (sym q) ∙ sym (freed_bytes j b t (omega arith) h)
 
-  pub higher_then_lower : release_bytes (Is b) (release_bytes (Is b) j t) s ≡ release_bytes (Is b) j t
+  pub higher_then_lower : release_bytes (Some b) (release_bytes (Some b) j t) s ≡ release_bytes (Some b) j t
   higher_then_lower =
       let q : t - low_of j b ≡ s - low_of j b + (t - low_of j b - (s - low_of j b)) = omega arith in
       one_more t s (omega arith) h l (omega arith)
@@ -126,11 +126,11 @@ module _ (j : List ℕ) (b s t : ℕ) (l : 1 ≤ s) (le : s ≤ t) (h : t ≤ b)
 
 -- "a release repeated changes nothing and answers 0 and 0"
 pub release_again : (j : List ℕ) (b s : ℕ) → Formed j (slots_of j) b → 1 ≤ s → s ≤ b
-    → (release_bytes (Is b) (release_bytes (Is b) j s) s ≡ release_bytes (Is b) j s)
-    × (release_rule (Is b) (release_bytes (Is b) j s) s ≡ gives (record { count = 0; sum = 0 }))
+    → (release_bytes (Some b) (release_bytes (Some b) j s) s ≡ release_bytes (Some b) j s)
+    × (release_rule (Some b) (release_bytes (Some b) j s) s ≡ gives (record { count = 0; sum = 0 }))
 unfolding sum_of
 release_again j b s f l h =
-    let k : List ℕ = release_bytes (Is b) j s in
+    let k : List ℕ = release_bytes (Some b) j s in
     let e : k ≡ freed_after j (slots_of j) (low_of j b) (s - low_of j b) = freed_bytes j b s l h in
     let n : slots_of k ≡ slots_of j = slots_stay j b s s l (omega arith) h s l h in
     let none : held_after (freed_after j (slots_of j) (low_of j b) (s - low_of j b)) (slots_of j) (low_of j b) (s - low_of j b) ≡ [] =
@@ -155,6 +155,6 @@ unfolding freed_after
 after_never j n low zero x h = h
 after_never j n low (suc m) x h = freed_never j (place n (low + 1)) x (after_never (freed_at j (place n (low + 1))) n (low + 1) m x h)
 
-pub never_held_again : (j : List ℕ) (b s at : ℕ) → 1 ≤ s → s ≤ b → is_held (state_at (release_bytes (Is b) j s) at) ≡ true → is_held (state_at j at) ≡ true
+pub never_held_again : (j : List ℕ) (b s at : ℕ) → 1 ≤ s → s ≤ b → is_held (state_at (release_bytes (Some b) j s) at) ≡ true → is_held (state_at j at) ≡ true
 never_held_again j b s at l h e =
     after_never j (slots_of j) (low_of j b) (s - low_of j b) (at + 15) (ap (λ (k : List ℕ). is_held (state_at k at)) (sym (freed_bytes j b s l h)) ∙ e)

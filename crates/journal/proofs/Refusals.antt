@@ -1,4 +1,5 @@
 -- "Each is given exactly when its condition is the first to hold in the order stated for that call": book and release.
+use Rattle.std.proofs.Common.{Option}
 use Prim.Native.Nat.{ℕ}
 use mathlib.Core.Path.{◌≡◌}
 use mathlib.Core.Bool.{not}
@@ -12,10 +13,9 @@ use Rattle.reasons.proofs.Laws.{First, never, refuses_exactly}
 use Rattle.luhn.specs.Luhn.{passes}
 use Rattle.pan.specs.Pan.{pan_length}
 use Rattle.slots.specs.Views.{formed, newest}
-use Rattle.slots.specs.declared.Newest.{Newest}
 use Rattle.journal.specs.Rules.{full, book_rule, release_rule}
 
-module _ (m : Newest) (j : List ℕ) (n : ℕ) where
+module _ (m : Option ℕ) (j : List ℕ) (n : ℕ) where
   -- "16, 2, 3, 4 (Luhn), 17, 19 (newest is 4,294,967,295), 18 (all N slots held)"
   pub book_refuses : (pan : List ℕ) (label amount : ℕ) → (book_rule m j pan label amount ≡ refuses n) ↔
       First (formed m) 16 n

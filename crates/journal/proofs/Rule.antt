@@ -1,4 +1,5 @@
 -- The rules of book and release, outcome by outcome.
+use Rattle.std.proofs.Common.{Option, Some, None}
 use Prim.Native.Nat.{ℕ, ◌≤◌, ◌<◌, ◌+◌, ◌-◌, ◌*◌, ◌%◌}
 use mathlib.Core.Path.{◌≡◌, refl, sym, ap, ◌∙◌}
 use mathlib.Core.Bool.{Bool, true, false}
@@ -21,8 +22,6 @@ use Rattle.slots.specs.Writes.{wrote, record_writes}
 use Rattle.slots.proofs.Ring.{place_in}
 use Rattle.slots.proofs.Records.{record_long}
 use Rattle.slots.proofs.Writes.{wrote_put}
-use Rattle.slots.specs.declared.Newest.{Newest}
-use Rattle.slots.specs.declared.Newest.TheVariants.{Malformed, Is}
 use Rattle.held.specs.declared.Tallied.{Tallied}
 
 -- ---- a refusal changes nothing, and a value tells what is there
@@ -72,23 +71,23 @@ refused_on false b c x next e = let z : x ≡ 2 = cc in ap refuses z
 -- ---- book
 
 module _ (j pan : List ℕ) (label amount b : ℕ) where
-  pub book_pan : (x : ℕ) → refuses x ≡ pan_rule pan → refuses x ≡ book_rule (Is b) j pan label amount
+  pub book_pan : (x : ℕ) → refuses x ≡ pan_rule pan → refuses x ≡ book_rule (Some b) j pan label amount
   unfolding pan_rule book_rule
   book_pan x e = refused_on (pan_length (length pan)) (all_digits pan) (passes pan) x _ e
 
-  pub book_zero : Fine pan → amount ≡ 0 → refuses 17 ≡ book_rule (Is b) j pan label amount
+  pub book_zero : Fine pan → amount ≡ 0 → refuses 17 ≡ book_rule (Some b) j pan label amount
   unfolding book_rule
   book_zero f z = simp (f.count, f.digits, f.sum, eq-eqb amount 0 z)
 
-  pub book_last : Fine pan → (amount ≡ 0 → ⊥) → b ≡ 4294967295 → refuses 19 ≡ book_rule (Is b) j pan label amount
+  pub book_last : Fine pan → (amount ≡ 0 → ⊥) → b ≡ 4294967295 → refuses 19 ≡ book_rule (Some b) j pan label amount
   unfolding book_rule
   book_last f z l = simp (f.count, f.digits, f.sum, ne_eqb amount 0 z, eq-eqb b 4294967295 l)
 
-  pub book_full : Fine pan → (amount ≡ 0 → ⊥) → (b ≡ 4294967295 → ⊥) → full j ≡ true → refuses 18 ≡ book_rule (Is b) j pan label amount
+  pub book_full : Fine pan → (amount ≡ 0 → ⊥) → (b ≡ 4294967295 → ⊥) → full j ≡ true → refuses 18 ≡ book_rule (Some b) j pan label amount
   unfolding book_rule
   book_full f z l r = simp (f.count, f.digits, f.sum, ne_eqb amount 0 z, ne_eqb b 4294967295 l, r)
 
-  pub book_done : Fine pan → (amount ≡ 0 → ⊥) → (b ≡ 4294967295 → ⊥) → full j ≡ false → gives (b + 1) ≡ book_rule (Is b) j pan label amount
+  pub book_done : Fine pan → (amount ≡ 0 → ⊥) → (b ≡ 4294967295 → ⊥) → full j ≡ false → gives (b + 1) ≡ book_rule (Some b) j pan label amount
   unfolding book_rule
   book_done f z l r = simp (f.count, f.digits, f.sum, ne_eqb amount 0 z, ne_eqb b 4294967295 l, r)
 
@@ -106,17 +105,17 @@ written j k r pan b clock amount label f long er e =
 -- ---- release
 
 module _ (j : List ℕ) (b s : ℕ) where
-  pub release_none : within 1 b s ≡ false → refuses 20 ≡ release_rule (Is b) j s
+  pub release_none : within 1 b s ≡ false → refuses 20 ≡ release_rule (Some b) j s
   unfolding release_rule
   release_none h = simp h
 
-  pub release_done : 1 ≤ s → s ≤ b → gives (record { count = length (held_up_to j b s); sum = sum_of (held_up_to j b s) }) ≡ release_rule (Is b) j s
+  pub release_done : 1 ≤ s → s ≤ b → gives (record { count = length (held_up_to j b s); sum = sum_of (held_up_to j b s) }) ≡ release_rule (Some b) j s
   unfolding release_rule
   release_done l h = simp (inside 1 b s l h)
 
 -- ---- answers with what they leave
 
-module _ (m : Newest) (j pan : List ℕ) (label amount clock : ℕ) where
+module _ (m : Option ℕ) (j pan : List ℕ) (label amount clock : ℕ) where
   pub book_same : (x : ℕ) → refuses x ≡ book_rule m j pan label amount
       → (refuses x ≡ book_rule m j pan label amount) × (j ≡ book_bytes m j pan label amount clock)
   unfolding book_bytes
@@ -127,7 +126,7 @@ module _ (m : Newest) (j pan : List ℕ) (label amount clock : ℕ) where
   unfolding book_bytes
   book_wrote s x k w e f = (ap gives w ∙ e, f ∙ new_after j (λ s. put j (place (slots_of j) s) (record32 s clock amount label pan)) e)
 
-module _ (m : Newest) (j : List ℕ) (s : ℕ) where
+module _ (m : Option ℕ) (j : List ℕ) (s : ℕ) where
   pub release_same : (x : ℕ) → refuses x ≡ release_rule m j s → (refuses x ≡ release_rule m j s) × (j ≡ release_bytes m j s)
   unfolding release_bytes
   release_same x e = (e, same_after j _ e)
@@ -135,21 +134,21 @@ module _ (m : Newest) (j : List ℕ) (s : ℕ) where
 -- what was counted and freed from low on, where top is the higher of low and s
 pub release_freed : (j k : List ℕ) (b s low top : ℕ) (t : Tallied) → 1 ≤ s → s ≤ b → low ≡ low_of j b → top - low ≡ s - low
     → Tallies t (held_after j (slots_of j) low (top - low)) → k ≡ freed_after j (slots_of j) low (top - low)
-    → (gives (record { count = t.count; sum = t.sum }) ≡ release_rule (Is b) j s) × (k ≡ release_bytes (Is b) j s)
+    → (gives (record { count = t.count; sum = t.sum }) ≡ release_rule (Some b) j s) × (k ≡ release_bytes (Some b) j s)
 unfolding release_bytes
 release_freed j k b s low top t l h el et tally freed =
     let em : top - low ≡ s - low_of j b = et ∙ ap (λ (x : ℕ). s - x) el in
     let all : held_after j (slots_of j) low (top - low) ≡ held_up_to j b s = (λ i. held_after j (slots_of j) (el i) (em i)) in
-    let e : gives (record { count = t.count; sum = t.sum }) ≡ release_rule (Is b) j s =
+    let e : gives (record { count = t.count; sum = t.sum }) ≡ release_rule (Some b) j s =
     (λ i. gives (record { count = (tally.count ∙ ap length all) i; sum = (tally.sum ∙ ap sum_of all) i })) ∙ release_done j b s l h in
     (e, freed ∙ (λ i. freed_after j (slots_of j) (el i) (em i)) ∙ new_after j (λ _. freed_after j (slots_of j) (low_of j b) (s - low_of j b)) e)
 
 -- ---- a journal that is not well formed
 
-pub book_bad : (j pan : List ℕ) (label amount : ℕ) → refuses 16 ≡ book_rule Malformed j pan label amount
+pub book_bad : (j pan : List ℕ) (label amount : ℕ) → refuses 16 ≡ book_rule None j pan label amount
 unfolding book_rule
 book_bad j pan label amount = refl
 
-pub release_bad : (j : List ℕ) (s : ℕ) → refuses 16 ≡ release_rule Malformed j s
+pub release_bad : (j : List ℕ) (s : ℕ) → refuses 16 ≡ release_rule None j s
 unfolding release_rule
 release_bad j s = refl

@@ -1,27 +1,26 @@
 // The calls on a journal whose view is already made: for the calls of this crate and for the swipe, which scans the journal once.
-ghost use Rattle.std.specs.Prelude.{◌≡◌, ◌+◌, ◌*◌, ◌-◌, ◌≤◌, ◌<◌, length};
+ghost use Rattle.std.specs.Prelude.{◌≡◌, ◌+◌, ◌*◌, ◌-◌, ◌≤◌, ◌<◌, length, Some};
 ghost use Rattle.reasons.specs.Reasons.{said};
 ghost use Rattle.text.specs.Numbers.{put};
 ghost use Rattle.slots.specs.Record.{record32};
 ghost use Rattle.slots.specs.Journal.{slots_of, place, Formed};
-ghost use Rattle.slots.specs.declared.Newest.TheVariants.{Is};
-ghost use Rattle.journal.specs.Rules.{pan_rule, full, book_rule, book_bytes, release_rule, release_bytes, freed_at, freed_after, said_booked, said_released};
+ghost use Rattle.journal.specs.Rules.{pan_rule, full, book_rule, book_bytes, release_rule, release_bytes, freed_at, freed_after};
 
-use crate::{Booked, Released};
-use reasons::{Reason, Tested};
+use crate::Released;
+use reasons::Reason;
 
 // ---- book
 
 // Whether a text is a card number that passes.
-fn pan_tested(pan: &[u8]) -> Tested
+fn pan_tested(pan: &[u8]) -> Result<(), Reason>
     ensures { said result ≡ pan_rule pan.now }
 {
     let n = pan.len();
     if n < 13 {
-        return Tested::Refused(Reason::BadCount);
+        return Err(Reason::BadCount);
     }
     if 19 < n {
-        return Tested::Refused(Reason::BadCount);
+        return Err(Reason::BadCount);
     }
     luhn::test(pan)
 }
@@ -49,25 +48,28 @@ pub fn write_at(j: &mut [u8], b: u32, pan: &[u8], label: u16, amount: u32, clock
 }
 
 // Books in a journal with newest serial b.
-pub fn book_at(j: &mut [u8], b: u32, pan: &[u8], label: u16, amount: u32, clock: u32) -> Booked
+pub fn book_at(
+    j: &mut [u8],
+    b: u32,
+    pan: &[u8],
+    label: u16,
+    amount: u32,
+    clock: u32,
+) -> Result<u32, Reason>
     requires { Formed j.old (slots_of j.old) b }
-    ensures { (said_booked result ≡ book_rule (Is b) j.old pan.now label amount) × (j.new ≡ book_bytes (Is b) j.old pan.now label amount clock) }
+    ensures { (said result ≡ book_rule (Some b) j.old pan.now label amount) × (j.new ≡ book_bytes (Some b) j.old pan.now label amount clock) }
 {
-    match pan_tested(pan) {
-        Tested::Refused(r) => Booked::Refused(r),
-        Tested::Passes => {
-            if amount == 0 {
-                return Booked::Refused(Reason::ZeroAmount);
-            }
-            if b == 4294967295 {
-                return Booked::Refused(Reason::SerialsUsedUp);
-            }
-            if is_full(j, b) {
-                return Booked::Refused(Reason::JournalFull);
-            }
-            Booked::Serial(write_at(j, b, pan, label, amount, clock))
-        }
+    pan_tested(pan)?;
+    if amount == 0 {
+        return Err(Reason::ZeroAmount);
     }
+    if b == 4294967295 {
+        return Err(Reason::SerialsUsedUp);
+    }
+    if is_full(j, b) {
+        return Err(Reason::JournalFull);
+    }
+    Ok(write_at(j, b, pan, label, amount, clock))
 }
 
 // ---- release
@@ -89,26 +91,27 @@ fn free(j: &mut [u8], n: usize, low: u32, top: u32)
     ensures { j.new ≡ freed_after j.old n low (top - low) }
 {
     let mut at = slots::place_of(n, low + 1);
-    let mut s = low;
-    while s < top {
+    for _s in low..top {
         free_one(j, at);
         at = slots::onward(n, at);
-        s += 1;
     }
 }
 
 // Releases in a journal with newest serial b.
-pub fn release_at(j: &mut [u8], b: u32, s: u32) -> Released
+pub fn release_at(j: &mut [u8], b: u32, s: u32) -> Result<Released, Reason>
     requires { Formed j.old (slots_of j.old) b }
-    ensures { (said_released result ≡ release_rule (Is b) j.old s) × (j.new ≡ release_bytes (Is b) j.old s) }
+    ensures { (said result ≡ release_rule (Some b) j.old s) × (j.new ≡ release_bytes (Some b) j.old s) }
 {
     if !held::inner::is_after(0, b, s) {
-        return Released::Refused(Reason::NoSerial);
+        return Err(Reason::NoSerial);
     }
     let n = j.len() / 32;
     let low = slots::floor_of(n, b);
     let top = slots::higher(low, s);
     let t = held::inner::tally(j, n, low, top);
     free(j, n, low, top);
-    Released::Those(t.count, t.sum)
+    Ok(Released {
+        count: t.count,
+        sum: t.sum,
+    })
 }

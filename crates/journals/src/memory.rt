@@ -2,59 +2,34 @@
 ghost use Rattle.std.specs.Prelude.{◌+◌, ◌*◌, ◌≤◌, ◌<◌, length};
 
 use crate::survey;
-use say::fields::Filled;
 use say::{Output, fields};
 
-fn zero(journal: &mut [u8]) {
-    let mut i = 0;
-    while i < journal.len() {
-        journal[i] = 0;
-        i += 1;
-    }
-}
-
 fn so_many(out: &mut Output, n: u64) {
-    let count = [n];
-    say::sentence(out, b"slots #\n", &count);
-}
-
-fn no_count(out: &mut Output) -> Filled {
-    fields::unclear(out, b"slots are 1 to 2048");
-    fields::fills_none()
+    say::sentence(out, b"slots #\n", &[n]);
 }
 
 // A journal of n empty slots, where there can be so many.
-fn empty(out: &mut Output, n: u64, journal: &mut [u8]) -> Filled {
-    if n == 0 {
-        return no_count(out);
+fn empty(out: &mut Output, n: u64, journal: &mut [u8]) -> Option<usize> {
+    if !(1..=2048).contains(&n) {
+        fields::unclear(out, b"slots are 1 to 2048");
+        return None;
     }
-    if 2048 < n {
-        return no_count(out);
-    }
-    zero(journal);
+    journal.fill(0);
     so_many(out, n);
-    fields::fills(32 * (n as usize))
+    Some(32 * (n as usize))
 }
 
-// A new, empty journal: how many bytes it has.
-pub fn slots(out: &mut Output, line: &[u8], journal: &mut [u8]) -> Filled {
-    let field = fields::number(out, line, 1, 4294967295);
-    let clear = field.clear;
-    if !clear {
-        return fields::fills_none();
-    }
-    empty(out, field.value, journal)
+// A new, empty journal: how many bytes it has; none where the line isn't understood, which is answered.
+pub fn slots(out: &mut Output, line: &[u8], journal: &mut [u8]) -> Option<usize> {
+    let n = fields::number(out, line, 1, 4294967295)?;
+    empty(out, n, journal)
 }
 
-// A journal with the bytes of a line: how many they are. It is surveyed at once.
-pub fn load(out: &mut Output, line: &[u8], journal: &mut [u8]) -> Filled {
-    let filled = fields::bytes(out, line, journal);
-    let clear = filled.clear;
-    let n = filled.length;
-    if clear {
-        survey::survey(out, &journal[0..n]);
-    }
-    filled
+// A journal with the bytes of a line: how many they are, none where they aren't understood, which is answered. It is surveyed at once.
+pub fn load(out: &mut Output, line: &[u8], journal: &mut [u8]) -> Option<usize> {
+    let n = fields::bytes(out, line, journal)?;
+    survey::survey(out, &journal[..n]);
+    Some(n)
 }
 
 // ---- one slot
@@ -63,8 +38,7 @@ fn put_slot(out: &mut Output, journal: &mut [u8], k: usize, bytes: &[u8; 32])
     requires { (32 * k + 32 ≤ length journal.old) × (k ≤ 4294967295) }
 {
     text::put_at(journal, 32 * k, bytes);
-    let number = [k as u64];
-    say::sentence(out, b"slot #\n", &number);
+    say::sentence(out, b"slot #\n", &[k as u64]);
 }
 
 // The 32 bytes of a line into slot k.
@@ -72,12 +46,10 @@ fn fill_slot(out: &mut Output, line: &[u8], journal: &mut [u8], k: usize)
     requires { (32 * k + 32 ≤ length journal.old) × (k ≤ 4294967295) }
 {
     let mut bytes = [0u8; 32];
-    let filled = fields::bytes_of(out, script::word(line, 2), &mut bytes);
-    let clear = filled.clear;
-    if !clear {
+    let Some(n) = fields::bytes_of(out, script::word(line, 2), &mut bytes) else {
         return;
-    }
-    if filled.length != 32 {
+    };
+    if n != 32 {
         fields::unclear(out, b"a slot has 32 bytes");
         return;
     }
@@ -86,12 +58,10 @@ fn fill_slot(out: &mut Output, line: &[u8], journal: &mut [u8], k: usize)
 
 // The bytes of a line into the slot that it names.
 pub fn slot(out: &mut Output, line: &[u8], journal: &mut [u8]) {
-    let field = fields::number(out, line, 1, 4294967295);
-    let clear = field.clear;
-    if !clear {
+    let Some(number) = fields::number(out, line, 1, 4294967295) else {
         return;
-    }
-    let k = field.value as usize;
+    };
+    let k = number as usize;
     if journal.len() / 32 <= k {
         fields::unclear(out, b"the journal has no such slot");
         return;
@@ -106,18 +76,9 @@ fn used(out: &mut Output, k: usize, bytes: &[u8]) {
     if slots::zeros(bytes, 0, bytes.len()) {
         return;
     }
-    let number = [k as u64];
-    say::sentence(out, b"journal # ", &number);
+    say::sentence(out, b"journal # ", &[k as u64]);
     say::hex(out, bytes);
     say::line(out);
-}
-
-fn used_slots(out: &mut Output, journal: &[u8]) {
-    let mut k = 0;
-    while k < journal.len() / 32 {
-        used(out, k, text::piece(journal, 32 * k, 32));
-        k += 1;
-    }
 }
 
 // The journal as lines that can be given back.
@@ -128,5 +89,7 @@ pub fn dump(out: &mut Output, journal: &[u8]) {
         return;
     }
     so_many(out, (n / 32) as u64);
-    used_slots(out, journal);
+    for (k, slot) in journal.chunks_exact(32).enumerate() {
+        used(out, k, slot);
+    }
 }

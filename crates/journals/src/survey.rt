@@ -3,7 +3,6 @@ ghost use Rattle.std.specs.Prelude.{◌≤◌, length};
 
 use reasons::Reason;
 use say::Output;
-use surveys::Surveyed;
 
 fn length_of(out: &mut Output, n: usize) {
     if 65536 < n {
@@ -25,15 +24,7 @@ pub fn wrong_length(out: &mut Output, n: usize) {
 
 // How many slots say x of themselves.
 fn how_many(states: &[u8], x: u8) -> usize {
-    let mut n = 0;
-    let mut i = 0;
-    while i < states.len() {
-        if states[i] == x {
-            n += 1;
-        }
-        i += 1;
-    }
-    n
+    states.iter().filter(|&&state| state == x).count()
 }
 
 // The line of slot k, where it is damaged.
@@ -43,8 +34,7 @@ fn damaged_slot(out: &mut Output, journal: &[u8], k: usize, state: u8)
     if state != 3 {
         return;
     }
-    let number = [k as u64];
-    say::sentence(out, b"damaged # ", &number);
+    say::sentence(out, b"damaged # ", &[k as u64]);
     say::hex(out, text::piece(journal, 32 * k, 32));
     say::line(out);
 }
@@ -52,10 +42,8 @@ fn damaged_slot(out: &mut Output, journal: &[u8], k: usize, state: u8)
 fn damaged(out: &mut Output, journal: &[u8], states: &[u8])
     requires { length states.now ≤ 2048 }
 {
-    let mut k = 0;
-    while k < states.len() {
-        damaged_slot(out, journal, k, states[k]);
-        k += 1;
+    for (k, &state) in states.iter().enumerate() {
+        damaged_slot(out, journal, k, state);
     }
 }
 
@@ -91,11 +79,7 @@ fn surveyed<'a>(journal: &[u8], states: &'a [u8]) -> &'a [u8]
     requires { length states.now ≤ 2048 }
     ensures { length result.now ≤ 2048 }
 {
-    let n = journal.len() / 32;
-    if n < states.len() {
-        return &states[0..n];
-    }
-    states
+    &states[..states.len().min(journal.len() / 32)]
 }
 
 // 2,048 states are enough for any journal, so that nothing but its length is refused.
@@ -103,9 +87,8 @@ fn survey_in(out: &mut Output, journal: &[u8], states: &mut [u8])
     requires { length states.old ≤ 2048 }
 {
     match surveys::survey(journal, states) {
-        Surveyed::Formed => report(out, journal, surveyed(journal, states), true),
-        Surveyed::Malformed => report(out, journal, surveyed(journal, states), false),
-        Surveyed::Refused(_) => wrong_length(out, journal.len()),
+        Ok(well) => report(out, journal, surveyed(journal, states), well),
+        Err(_) => wrong_length(out, journal.len()),
     }
 }
 

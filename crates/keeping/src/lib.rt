@@ -1,7 +1,7 @@
 // The commands that keep something from line to line: the tables, the hot list, the host's date, the journal, the host's ledger.
 #![tactic(auto)]
 
-ghost use Rattle.std.specs.Prelude.{◌≤◌, length};
+ghost use Rattle.std.specs.Prelude.{◌≡◌};
 
 use checks::{calendar, tables};
 use dates::Date;
@@ -9,26 +9,109 @@ use hotcards::Kept;
 use journals::memory;
 use ledger::Ledger;
 use menu::{Changing, Filling, OnHot, OnLedger, OnTables};
-use payments::Place;
-use say::fields::Filled;
+use payer::Terms;
+use payments::{Access, Journal};
 use say::{Output, fields};
-use std::fs::File;
+
+// ---- tables
+
+// A table of ranges, at the front of a buffer, and how many bytes it has.
+#[derive(Drop)]
+pub struct Table {
+    bytes: [u8; 70000],
+    length: usize,
+}
+
+impl Table {
+    fn new() -> Table
+        ensures { result.length ≡ 0 }
+    {
+        Table {
+            bytes: [0; 70000],
+            length: 0,
+        }
+    }
+
+    fn used(&self) -> &[u8] {
+        text::piece(&self.bytes, 0, self.length)
+    }
+
+    fn take_in(&mut self, out: &mut Output, name: &[u8], line: &[u8]) {
+        let length = self.length;
+        self.length = tables::take_in(out, name, line, &mut self.bytes, length);
+    }
+}
+
+// ---- what cards are held against
+
+// The tables of the site and the acquirer, and the hot list, at the front of its buffer.
+#[derive(Drop)]
+pub struct Lists {
+    site: Table,
+    acquirer: Table,
+    hot: [u64; 8192],
+    kept: Kept,
+}
+
+impl Lists {
+    // No tables, an empty hot list.
+    fn new() -> Lists
+        ensures { (result.site.length ≡ 0) × (result.acquirer.length ≡ 0) }
+    {
+        Lists {
+            site: Table::new(),
+            acquirer: Table::new(),
+            hot: [0; 8192],
+            kept: hotcards::none(),
+        }
+    }
+
+    fn terms(&self) -> Terms<'_> {
+        Terms {
+            site: self.site.used(),
+            acquirer: self.acquirer.used(),
+            hot: hotcards::in_use(&self.hot, self.kept.count),
+            digits: self.kept.digits,
+        }
+    }
+}
+
+pub fn on_tables(out: &mut Output, c: OnTables, line: &[u8], lists: &mut Lists) {
+    match c {
+        OnTables::Site => lists.site.take_in(out, b"site ", line),
+        OnTables::Acquirer => lists.acquirer.take_in(out, b"acquirer ", line),
+        OnTables::Range => {
+            let pan = script::text_of(script::word(line, 1));
+            tables::range(out, lists.site.used(), lists.acquirer.used(), pan);
+        }
+    }
+}
+
+pub fn on_hot(out: &mut Output, c: OnHot, line: &[u8], lists: &mut Lists) {
+    let kept = lists.kept;
+    match c {
+        OnHot::List => lists.kept = hotcards::take_in(out, line, &mut lists.hot, kept),
+        OnHot::Listed => {
+            let pan = script::text_of(script::word(line, 1));
+            hotcards::listed(
+                out,
+                hotcards::in_use(&lists.hot, kept.count),
+                kept.digits,
+                pan,
+            );
+        }
+    }
+}
+
+// ---- what is kept
 
 // What is kept from command to command.
 #[derive(Drop)]
-pub struct State {
-    // how many bytes of the tables' and the journal's buffers are in use
-    pub site: usize,
-    pub acquirer: usize,
-    pub length: usize,
-    // how many numbers of the hot list's buffer are in use, and their PAN length
-    pub hot: Kept,
+pub struct Desk {
+    pub lists: Lists,
     // the host's date
     pub date: Date,
-    // the journal's file, where it is one, whether that is for reading alone, and whether it can't be used any more
-    pub file: Option<File>,
-    pub read_only: bool,
-    pub lost: bool,
+    pub journal: Journal,
     // the host's ledger
     pub ledger: Ledger,
     // whether a line is shown before its answer, and whether one is asked for by a prompt
@@ -36,214 +119,80 @@ pub struct State {
     pub prompt: bool,
 }
 
-// No tables, an empty hot list, no date yet, an empty journal of 2,048 slots in memory, and a fresh ledger.
-pub fn in_memory(shown: bool) -> State
-    ensures { (result.site ≤ 0) × (result.acquirer ≤ 0) × (result.length ≤ 65536) }
-{
-    State {
-        site: 0,
-        acquirer: 0,
-        length: 65536,
-        hot: hotcards::none(),
-        date: calendar::none(),
-        file: None,
-        read_only: false,
-        lost: false,
-        ledger: ledger::fresh(),
-        shown,
-        prompt: false,
-    }
-}
-
-// ---- tables
-
-pub fn on_tables(
-    out: &mut Output,
-    c: OnTables,
-    line: &[u8],
-    site: &mut [u8],
-    acquirer: &mut [u8],
-    st: State,
-) -> State {
-    let s = st.site;
-    let a = st.acquirer;
-    let mut next = st;
-    match c {
-        OnTables::Site => {
-            next.site = tables::take_in(out, b"site ", line, site, s);
-            next
-        }
-        OnTables::Acquirer => {
-            next.acquirer = tables::take_in(out, b"acquirer ", line, acquirer, a);
-            next
-        }
-        OnTables::Range => {
-            let pan = script::text_of(script::word(line, 1));
-            tables::range(
-                out,
-                text::piece(site, 0, s),
-                text::piece(acquirer, 0, a),
-                pan,
-            );
-            next
-        }
-    }
-}
-
-// ---- the hot list
-
-pub fn on_hot(out: &mut Output, c: OnHot, line: &[u8], hot: &mut [u64; 8192], st: State) -> State {
-    let kept = st.hot;
-    let mut next = st;
-    match c {
-        OnHot::List => {
-            next.hot = hotcards::take_in(out, line, hot, kept);
-            next
-        }
-        OnHot::Listed => {
-            let pan = script::text_of(script::word(line, 1));
-            hotcards::listed(out, hotcards::in_use(hot, kept.count), kept.digits, pan);
-            next
+impl Desk {
+    // No tables, an empty hot list, no date yet, an empty journal of 2,048 slots in memory, and a fresh ledger.
+    pub fn new(shown: bool) -> Desk
+        ensures { (result.lists.site.length ≡ 0) × (result.lists.acquirer.length ≡ 0) × (result.journal.length ≡ 65536) }
+    {
+        Desk {
+            lists: Lists::new(),
+            date: calendar::none(),
+            journal: Journal::new(),
+            ledger: ledger::fresh(),
+            shown,
+            prompt: false,
         }
     }
 }
 
 // ---- the host's date
 
-pub fn on_date(out: &mut Output, line: &[u8], st: State) -> State {
-    let kept = st.date;
-    let mut next = st;
-    next.date = calendar::take_in(out, line, kept);
-    next
+pub fn on_date(out: &mut Output, line: &[u8], date: Date) -> Date {
+    calendar::take_in(out, line, date)
 }
 
 // ---- the journal
 
-// How many bytes of the journal's buffer are in use: n of them, or all.
-fn in_use(journal: &[u8], n: usize) -> usize
-    ensures { result ≤ length journal.now }
-{
-    if journal.len() < n { journal.len() } else { n }
+// Puts bytes into a slot of those in use.
+fn fill_slot(out: &mut Output, line: &[u8], journal: &mut Journal) {
+    let n = journal.in_use();
+    memory::slot(out, line, &mut journal.bytes[..n]);
 }
 
-// Puts bytes into a slot of the n bytes in use, whose number stays.
-fn fill_slot(out: &mut Output, line: &[u8], journal: &mut [u8], n: usize) -> Filled {
-    let used = in_use(journal, n);
-    memory::slot(out, line, &mut journal[0..used]);
-    fields::fills(n)
-}
-
-// A journal's bytes in memory: so many empty slots, those of a line, or a slot of them.
-fn fill(out: &mut Output, c: Filling, line: &[u8], journal: &mut [u8], n: usize) -> Filled {
-    match c {
-        Filling::Slots => memory::slots(out, line, journal),
+// A journal's bytes in memory: so many empty slots, those of a line, or a slot of them. A journal in a file isn't filled so.
+pub fn in_place(out: &mut Output, c: Filling, line: &[u8], journal: &mut Journal) {
+    if journal.file.is_some() {
+        return fields::unclear(out, b"the journal is a file");
+    }
+    let filled = match c {
+        Filling::Slots => memory::slots(out, line, &mut journal.bytes),
         Filling::Journal => {
             if script::operands(line) == 2 {
-                return fill_slot(out, line, journal, n);
+                return fill_slot(out, line, journal);
             }
-            memory::load(out, line, journal)
+            memory::load(out, line, &mut journal.bytes)
         }
-    }
-}
-
-pub fn in_place(out: &mut Output, c: Filling, line: &[u8], journal: &mut [u8], st: State) -> State {
-    let filed = st.file.is_some();
-    if filed {
-        fields::unclear(out, b"the journal is a file");
-        return st;
-    }
-    let filled = fill(out, c, line, journal, st.length);
-    let clear = filled.clear;
-    if !clear {
-        return st;
-    }
-    let mut next = st;
-    next.length = filled.length;
-    next
-}
-
-// A command that changes the journal, lent its bytes alone: whether the journal can be used any more.
-fn change_in(
-    out: &mut Output,
-    c: Changing,
-    line: &[u8],
-    site: &[u8],
-    acquirer: &[u8],
-    hot: &[u64],
-    digits: u32,
-    date: Date,
-    journal: &mut [u8],
-    at: Place<'_>,
-) -> bool {
-    match c {
-        Changing::Book => payments::book(out, line, journal, at),
-        Changing::Swipe(t) => payments::swipe(
-            out, t, line, site, acquirer, hot, digits, date, journal, at,
-        ),
-        Changing::Release => payments::release(out, line, journal, at),
-    }
-}
-
-// Whether the journal can't be changed, which is answered.
-fn is_fixed(out: &mut Output, lost: bool, read_only: bool) -> bool {
-    if answers::is_lost(out, lost) {
-        return true;
-    }
-    if read_only {
-        fields::unclear(out, b"the journal is opened for reading alone");
-    }
-    read_only
-}
-
-pub fn change(
-    out: &mut Output,
-    c: Changing,
-    line: &[u8],
-    site: &[u8],
-    acquirer: &[u8],
-    hot: &[u64],
-    journal: &mut [u8],
-    st: State,
-) -> State {
-    if is_fixed(out, st.lost, st.read_only) {
-        return st;
-    }
-    let at = Place {
-        file: st.file.as_ref(),
     };
-    let kept = st.hot;
-    let date = st.date;
-    let n = in_use(journal, st.length);
-    let usable = change_in(
-        out,
-        c,
-        line,
-        text::piece(site, 0, st.site),
-        text::piece(acquirer, 0, st.acquirer),
-        hotcards::in_use(hot, kept.count),
-        kept.digits,
-        date,
-        &mut journal[0..n],
-        at,
-    );
-    let mut next = st;
-    next.lost = !usable;
-    next
+    if let Some(n) = filled {
+        journal.length = n;
+    }
+}
+
+fn change_in(out: &mut Output, c: Changing, line: &[u8], desk: &mut Desk) {
+    match c {
+        Changing::Book => payments::book(out, line, &mut desk.journal),
+        Changing::Swipe(t) => {
+            let terms = desk.lists.terms();
+            payments::swipe(out, t, line, terms, desk.date, &mut desk.journal);
+        }
+        Changing::Release => payments::release(out, line, &mut desk.journal),
+    }
+}
+
+// A command that changes the journal, where it can be changed.
+pub fn change(out: &mut Output, c: Changing, line: &[u8], desk: &mut Desk) {
+    match desk.journal.access {
+        Access::Change => change_in(out, c, line, desk),
+        Access::Look => fields::unclear(out, b"the journal is opened for reading alone"),
+        Access::Lost => answers::lost(out),
+    }
 }
 
 // ---- the host's ledger
 
-pub fn on_ledger(out: &mut Output, c: OnLedger, line: &[u8], st: State) -> State {
-    let ledger = st.ledger;
-    let mut next = st;
+pub fn on_ledger(out: &mut Output, c: OnLedger, line: &[u8], ledger: Ledger) -> Ledger {
     match c {
-        OnLedger::Fresh => {
-            next.ledger = hosting::fresh(out);
-            next
-        }
-        OnLedger::Take => {
-            next.ledger = hosting::take(out, line, ledger);
-            next
-        }
+        OnLedger::Fresh => hosting::fresh(out),
+        OnLedger::Take => hosting::take(out, line, ledger),
     }
 }

@@ -10,36 +10,35 @@ use lib.ListN.{length, get_or, take, drop, take-append-drop, length-append, leng
 use lib.Seq.{drop-cons, drop-drop, take_at, drop-append-add, take-append_seam, drop-append_seam, length-take-le}
 use borrow.Author.Tests.{eqb-true, eq-eqb}
 use denote.Ref.{Bor}
+use Rattle.std.proofs.Common.{Option, None, Some, Result}
 use Rattle.text.specs.Bytes.{is_digit, every, all_digits}
 use Rattle.text.proofs.Tests.{inside_is, both_true}
 use Rattle.text.proofs.Parts.{Same, part_one}
-use Rattle.reasons.specs.Reasons.{Outcome, number_of, number_in, gives, refuses, demand, and_then}
-use Rattle.reasons.proofs.Laws.{gives_refuses, refuses_one, passed, stopped, went_on, went_wrong}
+use Rattle.reasons.specs.Reasons.{Outcome, number_in, gives, refuses, demand, and_then, said}
+use Rattle.reasons.specs.declared.Reason.{Reason}
+use Rattle.reasons.proofs.Laws.{gives_refuses, said_one, passed, stopped, went_on, went_wrong}
 use Rattle.pan.specs.Pan.{pan_length}
-use Rattle.layout.specs.Layout.{allowed, is_expiry, is_service, lead, mark_at, field_rule, past, Places, rest_rule, service_rule, expiry_rule, layout_rule, said, CutOf, field_cut, pan_cut, expiry_cut, service_cut, rest_cut}
-use Rattle.layout.specs.Grammar.{Optional, absent, present, written, Passes, Pieces, text_of, Formed, placed, places_of, field_in, pieces_at}
+use Rattle.layout.specs.Layout.{allowed, is_expiry, is_service, lead, mark_at, field_rule, past, rest_rule, service_rule, expiry_rule, layout_rule, CutOf, field_cut, pan_cut, expiry_cut, service_cut, rest_cut}
+use Rattle.layout.specs.Grammar.{written, Passes, Pieces, text_of, Formed, placed, places_of, field_in, pieces_at}
+use Rattle.layout.specs.declared.Fields.{Fields}
 use Rattle.layout.specs.declared.Track.{Track}
 use Rattle.layout.specs.declared.Track.TheVariants.{Two}
-use Rattle.layout.specs.declared.Field.{Field}
-use Rattle.layout.specs.declared.Field.TheVariants.{Absent, At}
-use Rattle.layout.specs.declared.Division.{Division}
-use Rattle.layout.specs.declared.Division.TheVariants.{Fields, Refused}
 use Rattle.layout.proofs.Forms.{present_byte, front_byte, lead_is, lead_pass, Digits, expiry_is, service_is, field_found, past_written, Written, field_written}
 
 -- pieces with the same parts are the same
-same_pieces : {a a' r r' : List ℕ} {e e' v v' : Optional} → a ≡ a' → e ≡ e' → v ≡ v' → r ≡ r'
+same_pieces : {a a' r r' : List ℕ} {e e' v v' : Option (List ℕ)} → a ≡ a' → e ≡ e' → v ≡ v' → r ≡ r'
     → ◌≡◌ {A = Pieces} (record { pan = a; expiry = e; service = v; discretionary = r }) (record { pan = a'; expiry = e'; service = v'; discretionary = r' })
 same_pieces h i j k = λ x. record { pan = h x; expiry = i x; service = j x; discretionary = k x }
 
 -- ---- the fields from the expiry's place q on, of either track
 
 -- a written field is read off again
-pub field_again : (k : Track) (n : ℕ) (test : List ℕ → Bool) → Digits n test → (s : List ℕ) (q : ℕ) (o : Optional) (y : List ℕ)
+pub field_again : (k : Track) (n : ℕ) (test : List ℕ → Bool) → Digits n test → (s : List ℕ) (q : ℕ) (o : Option (List ℕ)) (y : List ℕ)
     → drop q s ≡ written k o ++ y → Passes test o → field_in n s (placed q o) ≡ o
-field_again k n test d s q absent y h t = refl
-field_again k n test d s q (present o) y h t = ap present (ap (take n) h ∙ take_at o y n (d.size o t))
+field_again k n test d s q None y h t = refl
+field_again k n test d s q (Some o) y h t = ap Some (ap (take n) h ∙ take_at o y n (d.size o t))
 
-module _ (k : Track) (s : List ℕ) (p q : ℕ) (e v : Optional) (r : List ℕ) (text : drop q s ≡ written k e ++ (written k v ++ r)) where
+module _ (k : Track) (s : List ℕ) (p q : ℕ) (e v : Option (List ℕ)) (r : List ℕ) (text : drop q s ≡ written k e ++ (written k v ++ r)) where
   pub behind_expiry : drop (q + length (written k e)) s ≡ written k v ++ r
   behind_expiry = sym (drop-drop (length (written k e)) q s) ∙ ap (drop (length (written k e))) text ∙ drop-append_seam (written k e) (written k v ++ r)
 
@@ -96,20 +95,20 @@ only_division g h a b e =
     sym (pieces_again g a) ∙ ap₂ pieces_at e z ∙ pieces_again h b
 
 -- these places divide the text: what stands there is formed, makes up the text, and stands there
-pub record Divides (s : List ℕ) (d : Places) : Type 0 where
+pub record Divides (s : List ℕ) (d : Fields) : Type 0 where
   pub formed : Formed (pieces_at s d)
   pub text : text_of (pieces_at s d) ≡ s
   pub places : places_of (pieces_at s d) ≡ d
 
 -- what is accepted from the expiry's place on: the fields are written there, one behind the other
-pub record Tail (k : Track) (s : List ℕ) (p q : ℕ) (d : Places) : Type 0 where
+pub record Tail (k : Track) (s : List ℕ) (p q : ℕ) (d : Fields) : Type 0 where
   pub pan : d.pan ≡ p
   pub expiry : Written k 4 is_expiry expiry_is s q d.expiry
   pub service : Written k 3 is_service service_is s (past 4 q d.expiry) d.service
   pub rest : d.rest ≡ past 3 (past 4 q d.expiry) d.service
   pub free : every (allowed k) (drop d.rest s) ≡ true
 
-pub tail_there : (k : Track) (s : List ℕ) (p q : ℕ) (d : Places) → expiry_rule k s p q ≡ gives d → Tail k s p q d
+pub tail_there : (k : Track) (s : List ℕ) (p q : ℕ) (d : Fields) → expiry_rule k s p q ≡ gives d → Tail k s p q d
 unfolding expiry_rule service_rule rest_rule
 tail_there k s p q d accepted =
     let e = went_on (field_rule k is_expiry 4 s q) _ d accepted in
@@ -126,11 +125,11 @@ tail_there k s p q d accepted =
     })
 
 -- so that they make up the rest of the text, each where the one before it ends
-module _ (k : Track) (s : List ℕ) (p q : ℕ) (d : Places) (t : Tail k s p q d) where
-  abbrev expiry : Optional
+module _ (k : Track) (s : List ℕ) (p q : ℕ) (d : Fields) (t : Tail k s p q d) where
+  abbrev expiry : Option (List ℕ)
   expiry = field_in 4 s d.expiry
 
-  abbrev service : Optional
+  abbrev service : Option (List ℕ)
   service = field_in 3 s d.service
 
   pub tail_text : written k expiry ++ (written k service ++ drop d.rest s) ≡ drop q s
@@ -158,9 +157,9 @@ module _ (k : Track) (s : List ℕ) (p q : ℕ) (d : Places) (t : Tail k s p q d
 
 -- ---- what is accepted has the form
 
-module _ (s : List ℕ) (p : ℕ) (d : Places) (long : pan_length p ≡ true) (digits : all_digits (take p s) ≡ true) (equals : get_or s p 0 ≡ 61)
+module _ (s : List ℕ) (p : ℕ) (d : Fields) (long : pan_length p ≡ true) (digits : all_digits (take p s) ≡ true) (equals : get_or s p 0 ≡ 61)
     (t : Tail Two s p (p + 1) d) where
-  abbrev found : Places
+  abbrev found : Fields
   found = record { pan = p; expiry = d.expiry; service = d.service; rest = d.rest }
 
   within : p < length s
@@ -191,31 +190,31 @@ module _ (s : List ℕ) (p : ℕ) (d : Places) (long : pan_length p ≡ true) (d
         places = λ i. record { pan = pan_size i; expiry = w.0 i; service = w.1 i; rest = w.2 i };
       }
 
-pub accepted_form : (s : List ℕ) (d : Places) → layout_rule s ≡ gives d → Divides s d
+pub accepted_form : (s : List ℕ) (d : Fields) → layout_rule s ≡ gives d → Divides s d
 unfolding layout_rule
 accepted_form s d accepted =
     let start = passed (pan_length (lead s) && mark_at Two s (lead s)) 6 _ d accepted in
     let pan = both_true (pan_length (lead s)) (mark_at Two s (lead s)) start.0 in
     let t = tail_there Two s (lead s) (lead s + 1) d start.1 in
-    let among : ℕ → Places = λ p. record { pan = p; expiry = d.expiry; service = d.service; rest = d.rest } in
+    let among : ℕ → Fields = λ p. record { pan = p; expiry = d.expiry; service = d.service; rest = d.rest } in
     subst (Divides s) (sym (ap among t.pan))
     (divides s (lead s) d pan.0 (lead_pass is_digit s) (eqb-true (get_or s (lead s) 0) 61 pan.1) t)
 
 -- so that the parts stand within it
-pub field_fits : (s : List ℕ) (n : ℕ) (test : List ℕ → Bool) → Digits n test → (f : Field) → Passes test (field_in n s f)
+pub field_fits : (s : List ℕ) (n : ℕ) (test : List ℕ → Bool) → Digits n test → (f : Option ℕ) → Passes test (field_in n s f)
     → (field_cut n f).start + (field_cut n f).size ≤ length s
-field_fits s n test k Absent h = omega arith
-field_fits s n test k (At q) h = omega (arith, k.some, simp (length-take, length-drop) at (k.size (take n (drop q s)) h))
+field_fits s n test k None h = omega arith
+field_fits s n test k (Some q) h = omega (arith, k.some, simp (length-take, length-drop) at (k.size (take n (drop q s)) h))
 
-module _ (s : List ℕ) (d : Places) (accepted : layout_rule s ≡ gives d) where
+module _ (s : List ℕ) (d : Fields) (accepted : layout_rule s ≡ gives d) where
   pub pan_fits : d.pan ≤ length s
-  pan_fits = omega (arith, length-take d.pan s, ap (λ (x : Places). x.pan) (accepted_form s d accepted).places)
+  pan_fits = omega (arith, length-take d.pan s, ap (λ (x : Fields). x.pan) (accepted_form s d accepted).places)
 
   pub rest_fits : d.rest ≤ length s
   rest_fits =
       let g = pieces_at s d in
       let a = accepted_form s d accepted in
-      omega (arith, ap (λ (x : Places). x.rest) a.places, simp length-append at (ap length a.text))
+      omega (arith, ap (λ (x : Fields). x.rest) a.places, simp length-append at (ap length a.text))
 
   pub expiry_fits : (field_cut 4 d.expiry).start + (field_cut 4 d.expiry).size ≤ length s
   expiry_fits = field_fits s 4 is_expiry expiry_is d.expiry (accepted_form s d accepted).formed.expiry_right
@@ -224,15 +223,15 @@ module _ (s : List ℕ) (d : Places) (accepted : layout_rule s ≡ gives d) wher
   service_fits = field_fits s 3 is_service service_is d.service (accepted_form s d accepted).formed.service_right
 
 -- and near its front
-pub written_size : (k : Track) (n : ℕ) (test : List ℕ → Bool) → Digits n test → (o : Optional) → Passes test o → length (written k o) ≤ n
-written_size k n test d absent h = d.some
-written_size k n test d (present t) h = omega (arith, d.size t h)
+pub written_size : (k : Track) (n : ℕ) (test : List ℕ → Bool) → Digits n test → (o : Option (List ℕ)) → Passes test o → length (written k o) ≤ n
+written_size k n test d None h = d.some
+written_size k n test d (Some t) h = omega (arith, d.size t h)
 
-pub placed-start : (n q : ℕ) (o : Optional) → (field_cut n (placed q o)).start ≤ q
-placed-start n q absent = omega arith
-placed-start n q (present t) = omega arith
+pub placed-start : (n q : ℕ) (o : Option (List ℕ)) → (field_cut n (placed q o)).start ≤ q
+placed-start n q None = omega arith
+placed-start n q (Some t) = omega arith
 
-pub places_small : (s : List ℕ) (d : Places) → layout_rule s ≡ gives d
+pub places_small : (s : List ℕ) (d : Fields) → layout_rule s ≡ gives d
     → (d.pan ≤ 19) × ((field_cut 4 d.expiry).start ≤ 20) × ((field_cut 3 d.service).start ≤ 24) × (d.rest ≤ 27)
 places_small s d accepted =
     let a = accepted_form s d accepted in
@@ -240,7 +239,7 @@ places_small s d accepted =
     let p : length g.pan ≤ 19 = (inside_is 13 19 _ a.formed.pan_length_lem).1 in
     let e = written_size Two 4 is_expiry expiry_is g.expiry a.formed.expiry_right in
     let v = written_size Two 3 is_service service_is g.service a.formed.service_right in
-    subst (λ (x : Places). (x.pan ≤ 19) × ((field_cut 4 x.expiry).start ≤ 20) × ((field_cut 3 x.service).start ≤ 24) × (x.rest ≤ 27)) a.places (
+    subst (λ (x : Fields). (x.pan ≤ 19) × ((field_cut 4 x.expiry).start ≤ 20) × ((field_cut 3 x.service).start ≤ 24) × (x.rest ≤ 27)) a.places (
       p,
       omega (arith, p, placed-start 4 (length g.pan + 1) g.expiry),
       omega (arith, p, e, placed-start 3 (length g.pan + 1 + length (written Two g.expiry)) g.service),
@@ -262,15 +261,15 @@ module _ (k : Track) (s : List ℕ) (m : ℕ) where
   unfolding field_rule
   field_six test n q = by (mark_at k s q)
     where
-      by : (b : Bool) → cond b (gives Absent) (demand (test (take n (drop q s))) 6 (gives (At q))) ≡ refuses m → m ≡ 6
-      by true e = gives_refuses Absent m e
-      by false e = stops_six (test (take n (drop q s))) (gives (At q)) m (gives_refuses (At q) m) e
+      by : (b : Bool) → cond b (gives None) (demand (test (take n (drop q s))) 6 (gives (Some q))) ≡ refuses m → m ≡ 6
+      by true e = gives_refuses None m e
+      by false e = stops_six (test (take n (drop q s))) (gives (Some q)) m (gives_refuses (Some q) m) e
 
-  rest_six : (d : Places) → rest_rule k s d ≡ refuses m → m ≡ 6
+  rest_six : (d : Fields) → rest_rule k s d ≡ refuses m → m ≡ 6
   unfolding rest_rule
   rest_six d = stops_six (every (allowed k) (drop d.rest s)) (gives d) m (gives_refuses d m)
 
-  service_six : (p : ℕ) (e : Field) (q : ℕ) → service_rule k s p e q ≡ refuses m → m ≡ 6
+  service_six : (p : ℕ) (e : Option ℕ) (q : ℕ) → service_rule k s p e q ≡ refuses m → m ≡ 6
   unfolding service_rule
   service_six p e q =
       then_six (field_rule k is_service 3 s q) (λ v. rest_rule k s (record { pan = p; expiry = e; service = v; rest = past 3 q v })) m
@@ -308,17 +307,8 @@ six_exactly s =
     (λ g h. (places_of g, sym (ap layout_rule h.1) ∙ form_accepted g h.0))
     (λ d e. let w = accepted_form s d e in (pieces_at s d, (w.formed, w.text)))
 
--- what is said tells the answer
-pub said_one : (r q : Division) → said r ≡ said q → r ≡ q
-said_one (Fields p e v r) (Fields p' e' v' r') h =
-    let z : ◌≡◌ {A = Places} (record { pan = p; expiry = e; service = v; rest = r }) (record { pan = p'; expiry = e'; service = v'; rest = r' }) = cc in
-    ap (λ (d : Places). Fields d.pan d.expiry d.service d.rest) z
-said_one (Fields p e v r) (Refused b) h = gives_refuses (record { pan = p; expiry = e; service = v; rest = r }) (number_of b) h
-said_one (Refused a) (Fields p e v r) h = gives_refuses (record { pan = p; expiry = e; service = v; rest = r }) (number_of a) (sym h)
-said_one (Refused a) (Refused b) h = ap Refused (refuses_one a b h)
-
 -- any two answers that the promise of a call allows are equal: of divide, of each part, its place and its bytes, and of the number
-pub divide_one : (s : List ℕ) (r q : Division) → said r ≡ layout_rule s → said q ≡ layout_rule s → r ≡ q
+pub divide_one : (s : List ℕ) (r q : Result Fields Reason) → said r ≡ layout_rule s → said q ≡ layout_rule s → r ≡ q
 divide_one s r q a b = said_one r q (a ∙ sym b)
 
 module _ (s r q : Bor (List ℕ)) where

@@ -1,32 +1,26 @@
 -- The form of the characters between the sentinels, as a grammar: what they are put together from.
-use Rattle.std.specs.Prelude.{ℕ, ◌+◌, ◌≡◌, List, [], ◌∷◌, ◌++◌, Bool, true, length, take, drop}
+use Rattle.std.specs.Prelude.{ℕ, ◌+◌, ◌≡◌, List, [], ◌∷◌, ◌++◌, Bool, true, Option, None, Some, length, take, drop}
 use Rattle.text.specs.Bytes.{all_digits}
 use Rattle.pan.specs.Pan.{pan_length}
-use Rattle.layout.specs.Layout.{mark, is_expiry, is_service, Places}
+use Rattle.layout.specs.Layout.{mark, is_expiry, is_service}
 use Rattle.layout.specs.declared.Track.{Track}
 use Rattle.layout.specs.declared.Track.TheVariants.{Two}
-use Rattle.layout.specs.declared.Field.{Field}
-use Rattle.layout.specs.declared.Field.TheVariants.{Absent, At}
-
--- a field that may be absent
-pub data Optional : Type 0 where
-  absent : Optional
-  present : List ℕ → Optional
+use Rattle.layout.specs.declared.Fields.{Fields}
 
 -- as it is written: "or `=` for none"
-abbrev pub written : Track → Optional → List ℕ
-written k absent = mark k ∷ []
-written k (present t) = t
+abbrev pub written : Track → Option (List ℕ) → List ℕ
+written k None = mark k ∷ []
+written k (Some t) = t
 
 -- a present one passes the test
-abbrev pub Passes : (List ℕ → Bool) → Optional → Type 0
-Passes test absent = Unit {0}
-Passes test (present t) = test t ≡ true
+abbrev pub Passes : (List ℕ → Bool) → Option (List ℕ) → Type 0
+Passes test None = Unit {0}
+Passes test (Some t) = test t ≡ true
 
 pub record Pieces : Type 0 where
   pub pan : List ℕ
-  pub expiry : Optional
-  pub service : Optional
+  pub expiry : Option (List ℕ)
+  pub service : Option (List ℕ)
   pub discretionary : List ℕ
 
 -- "PAN of 13 to 19 digits; `=`; expiry ..; service code ..; then discretionary data"
@@ -41,11 +35,11 @@ pub record Formed (g : Pieces) : Type 0 where
   pub rest_digits : all_digits g.discretionary ≡ true
 
 -- where the pieces stand in their text
-abbrev pub placed : ℕ → Optional → Field
-placed q absent = Absent
-placed q (present t) = At q
+abbrev pub placed : ℕ → Option (List ℕ) → Option ℕ
+placed q None = None
+placed q (Some t) = Some q
 
-abbrev pub places_of : Pieces → Places
+abbrev pub places_of : Pieces → Fields
 places_of g = record {
   pan = length g.pan;
   expiry = placed (length g.pan + 1) g.expiry;
@@ -54,10 +48,10 @@ places_of g = record {
 }
 
 -- the pieces of a text that stand at these places
-abbrev pub field_in : ℕ → List ℕ → Field → Optional
-field_in n s Absent = absent
-field_in n s (At q) = present (take n (drop q s))
+abbrev pub field_in : ℕ → List ℕ → Option ℕ → Option (List ℕ)
+field_in n s None = None
+field_in n s (Some q) = Some (take n (drop q s))
 
-abbrev pub pieces_at : List ℕ → Places → Pieces
+abbrev pub pieces_at : List ℕ → Fields → Pieces
 pieces_at s d =
     record { pan = take d.pan s; expiry = field_in 4 s d.expiry; service = field_in 3 s d.service; discretionary = drop d.rest s }

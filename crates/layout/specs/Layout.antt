@@ -1,19 +1,15 @@
 -- The characters between the sentinels (ISO/IEC 7813), divided.
-use Rattle.std.specs.Prelude.{ℕ, suc, ◌+◌, ◌-◌, List, [], ◌∷◌, Bool, ◌&&◌, not, cond, length, get_or, take, drop, eqb}
+use Rattle.std.specs.Prelude.{ℕ, ◌+◌, ◌-◌, List, Bool, ◌&&◌, not, cond, Option, None, Some, length, get_or, take, drop, eqb}
+use Rattle.std.specs.List.{prefix_len}
 use Rattle.std.specs.Borrow.{Bor}
 use Rattle.text.specs.Bytes.{within, is_digit, every, all_digits}
 use Rattle.text.specs.Numbers.{decimal}
 use Rattle.text.specs.Parts.{PartOf}
-use Rattle.reasons.specs.Reasons.{number_of, Outcome, gives, refuses, demand, and_then}
+use Rattle.reasons.specs.Reasons.{Outcome, gives, refuses, demand, and_then}
 use Rattle.pan.specs.Pan.{pan_length}
 use Rattle.layout.specs.declared.Track.{Track}
 use Rattle.layout.specs.declared.Track.TheVariants.{Two, One}
-use Rattle.layout.specs.declared.Field.{Field}
-use Rattle.layout.specs.declared.Field.TheVariants.{Absent, At}
-use Rattle.layout.specs.declared.inner.Due.{Due}
-use Rattle.layout.specs.declared.inner.Due.TheVariants.{Missing, Present, Wrong}
-use Rattle.layout.specs.declared.Division.{Division}
-use Rattle.layout.specs.declared.Division.TheVariants.{Fields, Refused}
+use Rattle.layout.specs.declared.Fields.{Fields}
 
 -- ---- how a track's fields are written
 
@@ -41,62 +37,38 @@ is_expiry t = eqb (length t) 4 && (all_digits t && within 1 12 (decimal (drop 2 
 unfoldable pub is_service : List ℕ → Bool
 is_service t = eqb (length t) 3 && all_digits t
 
--- how many bytes a text starts with that pass a test
-unfoldable pub leading : (ℕ → Bool) → List ℕ → ℕ
-leading f [] = 0
-leading f (b ∷ s) = cond (f b) (suc (leading f s)) 0
-
--- and how many digits
+-- how many digits a text starts with
 abbrev pub lead : List ℕ → ℕ
-lead s = leading is_digit s
+lead s = prefix_len is_digit s
 
 -- the mark stands at q; past the end stands 0
 abbrev pub mark_at : Track → List ℕ → ℕ → Bool
 mark_at k s q = eqb (get_or s q 0) (mark k)
 
 -- a field of n bytes at q, "or `=` for none"
-unfoldable pub field_rule : Track → (List ℕ → Bool) → ℕ → List ℕ → ℕ → Outcome Field
-field_rule k test n s q = cond (mark_at k s q) (gives Absent) (demand (test (take n (drop q s))) 6 (gives (At q)))
+unfoldable pub field_rule : Track → (List ℕ → Bool) → ℕ → List ℕ → ℕ → Outcome (Option ℕ)
+field_rule k test n s q = cond (mark_at k s q) (gives None) (demand (test (take n (drop q s))) 6 (gives (Some q)))
 
 -- where the next one starts
-abbrev pub past : ℕ → ℕ → Field → ℕ
-past n q Absent = q + 1
-past n q (At p) = q + n
-
--- where the parts stand: the PAN from 0, and the discretionary data to the end
-pub record Places : Type 0 where
-  -- the PAN's length
-  pub pan : ℕ
-  pub expiry : Field
-  pub service : Field
-  -- where the discretionary data start
-  pub rest : ℕ
+abbrev pub past : ℕ → ℕ → Option ℕ → ℕ
+past n q None = q + 1
+past n q (Some p) = q + n
 
 -- "then discretionary data, digits only, perhaps none"
-unfoldable pub rest_rule : Track → List ℕ → Places → Outcome Places
+unfoldable pub rest_rule : Track → List ℕ → Fields → Outcome Fields
 rest_rule k s d = demand (every (allowed k) (drop d.rest s)) 6 (gives d)
 
 -- "service code as three digits, or `=` for none", at q, p being the PAN's length and e the expiry
-unfoldable pub service_rule : Track → List ℕ → ℕ → Field → ℕ → Outcome Places
+unfoldable pub service_rule : Track → List ℕ → ℕ → Option ℕ → ℕ → Outcome Fields
 service_rule k s p e q = and_then (field_rule k is_service 3 s q) (λ v. rest_rule k s (record { pan = p; expiry = e; service = v; rest = past 3 q v }))
 
 -- "expiry as four digits YYMM .., or `=` for none", at q
-unfoldable pub expiry_rule : Track → List ℕ → ℕ → ℕ → Outcome Places
+unfoldable pub expiry_rule : Track → List ℕ → ℕ → ℕ → Outcome Fields
 expiry_rule k s p q = and_then (field_rule k is_expiry 4 s q) (λ e. service_rule k s p e (past 4 q e))
 
 -- "PAN of 13 to 19 digits; `=`; .. Anything else is 6"
-unfoldable pub layout_rule : List ℕ → Outcome Places
+unfoldable pub layout_rule : List ℕ → Outcome Fields
 layout_rule s = demand (pan_length (lead s) && mark_at Two s (lead s)) 6 (expiry_rule Two s (lead s) (lead s + 1))
-
--- what the answers say
-abbrev pub said : Division → Outcome Places
-said (Fields p e v r) = gives (record { pan = p; expiry = e; service = v; rest = r })
-said (Refused r) = refuses (number_of r)
-
-abbrev pub said_due : ℕ → Due → Outcome Field
-said_due q Missing = gives Absent
-said_due q Present = gives (At q)
-said_due q Wrong = refuses 6
 
 -- each part's start and size: "a refusal gives an empty part", and so does an absent field
 pub record Cut : Type 0 where
@@ -110,23 +82,24 @@ CutOf s k r = PartOf s k.start k.size r
 abbrev pub none : Cut
 none = record { start = 0; size = 0 }
 
-abbrev pub field_cut : ℕ → Field → Cut
-field_cut n Absent = none
-field_cut n (At q) = record { start = q; size = n }
+abbrev pub field_cut : ℕ → Option ℕ → Cut
+field_cut n None = none
+field_cut n (Some q) = record { start = q; size = n }
 
-abbrev pub pan_cut : Outcome Places → Cut
-pan_cut (gives d) = record { start = 0; size = d.pan }
-pan_cut (refuses n) = none
+-- where a division puts a part
+abbrev pub cut_of : {A : Type 0} → (A → Cut) → Outcome A → Cut
+cut_of part (gives d) = part d
+cut_of part (refuses n) = none
 
-abbrev pub expiry_cut : Outcome Places → Cut
-expiry_cut (gives d) = field_cut 4 d.expiry
-expiry_cut (refuses n) = none
+abbrev pub pan_cut : Outcome Fields → Cut
+pan_cut o = cut_of (λ (d : Fields). record { start = 0; size = d.pan }) o
 
-abbrev pub service_cut : Outcome Places → Cut
-service_cut (gives d) = field_cut 3 d.service
-service_cut (refuses n) = none
+abbrev pub expiry_cut : Outcome Fields → Cut
+expiry_cut o = cut_of (λ (d : Fields). field_cut 4 d.expiry) o
+
+abbrev pub service_cut : Outcome Fields → Cut
+service_cut o = cut_of (λ (d : Fields). field_cut 3 d.service) o
 
 -- the discretionary data of a text of m characters
-abbrev pub rest_cut : ℕ → Outcome Places → Cut
-rest_cut m (gives d) = record { start = d.rest; size = m - d.rest }
-rest_cut m (refuses n) = none
+abbrev pub rest_cut : ℕ → Outcome Fields → Cut
+rest_cut m o = cut_of (λ (d : Fields). record { start = d.rest; size = m - d.rest }) o

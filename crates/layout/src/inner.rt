@@ -1,87 +1,70 @@
 // For the crates above: the steps of a division, over the track that it is of.
 ghost use Rattle.std.specs.Prelude.{◌≡◌, Bool, List, ℕ, ◌<◌, ◌≤◌, ◌+◌, length, get_or, take, drop};
+ghost use Rattle.std.specs.List.{prefix_len, list_all};
 ghost use Rattle.text.specs.Bytes.{every};
 ghost use Rattle.text.specs.Parts.{PartOf};
-ghost use Rattle.layout.specs.Layout.{mark, is_named, allowed, is_expiry, is_service, leading, lead, field_rule, rest_rule, service_rule, expiry_rule, said, said_due, CutOf, field_cut};
+ghost use Rattle.layout.specs.Layout.{mark, is_named, allowed, is_expiry, is_service, lead, field_rule, past, expiry_rule, CutOf, field_cut};
+ghost use Rattle.reasons.specs.Reasons.{said};
 
-use crate::{Division, Field, Track};
+use crate::{Fields, Track};
 use reasons::Reason;
 
-// What ends the PAN, and stands for an absent field: `=`, and on track 1 `^`.
-fn mark_of(track: Track) -> u8
-    ensures { result ≡ mark track }
-{
-    match track {
-        Track::Two => 61,
-        Track::One => 94,
+impl Track {
+    // What ends the PAN, and stands for an absent field: `=`, and on track 1 `^`.
+    fn mark(self) -> u8
+        ensures { result ≡ mark self }
+    {
+        match self {
+            Track::Two => b'=',
+            Track::One => b'^',
+        }
+    }
+
+    // Whether discretionary data may hold each of the bytes.
+    fn allows(self, bytes: &[u8]) -> bool
+        ensures { result ≡ every (allowed self) bytes.now }
+    {
+        match self {
+            Track::Two => text::all_digits(bytes),
+            Track::One => all_named(bytes),
+        }
     }
 }
 
 // Whether a byte may stand in a name: one of track 1's characters, but no sentinel and no mark.
+#[tactic(auto, using(std::proofs::lemmas::Bool::Decides::nat_tests), unfolding(crate::specs::Layout::is_named))]
 fn is_named(b: u8) -> bool
     ensures { result ≡ is_named b }
 {
-    if b < 32 {
-        return false;
-    }
-    if 95 < b {
-        return false;
-    }
-    if b == 37 {
-        return false;
-    }
-    if b == 63 {
-        return false;
-    }
-    b != 94
+    32 <= b && b <= 95 && b != b'%' && b != b'?' && b != b'^'
+}
+
+// Whether each byte may stand in a name.
+fn all_named(bytes: &[u8]) -> bool
+    ensures { result ≡ list_all is_named bytes.now }
+{
+    bytes.iter().all(|b| is_named(*b))
 }
 
 // How many bytes of a name the text starts with.
 pub fn named_of(chars: &[u8]) -> usize
-    ensures { (result ≡ leading is_named chars.now) × (result ≤ length chars.now) }
+    ensures { (result ≡ prefix_len is_named chars.now) × (result ≤ length chars.now) }
 {
-    let mut i = 0;
-    while i < chars.len() {
-        if !is_named(chars[i]) {
-            return i;
-        }
-        i += 1;
-    }
-    i
-}
-
-// Whether discretionary data may hold each of the bytes.
-fn all_allowed(track: Track, chars: &[u8]) -> bool
-    ensures { result ≡ every (allowed track) chars.now }
-{
-    match track {
-        Track::Two => text::all_digits(chars),
-        Track::One => named_of(chars) == chars.len(),
-    }
-}
-
-// The byte at i, or 0 past the end.
-pub fn byte_at(chars: &[u8], i: usize) -> u8
-    ensures { result ≡ get_or chars.now i 0 }
-{
-    if i < chars.len() {
-        return chars[i];
-    }
-    0
+    chars.iter().take_while(|b| is_named(**b)).count()
 }
 
 // How many digits the text starts with.
 pub fn lead_of(chars: &[u8]) -> usize
     ensures { (result ≡ lead chars.now) × (result ≤ length chars.now) }
 {
-    let mut i = 0;
-    while i < chars.len() {
-        if !text::is_digit(chars[i]) {
-            return i;
-        }
-        i += 1;
-    }
-    i
+    chars.iter().take_while(|b| text::is_digit(**b)).count()
+}
+
+// The byte at i, or 0 past the end.
+pub fn byte_at(chars: &[u8], i: usize) -> u8
+    ensures { result ≡ get_or chars.now i 0 }
+{
+    chars.get(i).copied().unwrap_or(0)
 }
 
 // Whether a text is four digits YYMM with MM 01 to 12.
@@ -94,93 +77,65 @@ fn is_expiry(t: &[u8]) -> bool
     if !text::all_digits(t) {
         return false;
     }
-    let month = 10 * (t[2] - 48) + (t[3] - 48);
-    if month < 1 {
-        return false;
-    }
-    if 12 < month {
-        return false;
-    }
-    true
+    let month = text::decimal(&t[2..]);
+    1 <= month && month <= 12
 }
 
 // Whether a text is three digits.
+#[tactic(auto, unfolding(crate::specs::Layout::is_service))]
 fn is_service(t: &[u8]) -> bool
     ensures { result ≡ is_service t.now }
 {
-    if t.len() != 3 {
-        return false;
-    }
-    text::all_digits(t)
+    t.len() == 3 && text::all_digits(t)
 }
 
-// What stands where a field is due: the mark for none, the field, or neither.
-#[derive(Clone, Copy)]
-pub enum Due {
-    Missing,
-    Present,
-    Wrong,
-}
-
-// What is due at `at`, where `fits` tells whether the bytes from there pass the field's test.
-fn due_at(track: Track, chars: &[u8], at: usize, fits: bool) -> Due
-    ensures { (test : List ℕ → Bool) (n : ℕ) → fits ≡ test (take n (drop at chars.now)) → said_due at result ≡ field_rule track test n chars.now at }
+// The field that is due at `at`, where `fits` tells whether the bytes from there pass its test; the mark stands for none.
+fn due_at(track: Track, chars: &[u8], at: usize, fits: bool) -> Result<Option<usize>, Reason>
+    ensures { (test : List ℕ → Bool) (n : ℕ) → fits ≡ test (take n (drop at chars.now)) → said result ≡ field_rule track test n chars.now at }
 {
-    if byte_at(chars, at) == mark_of(track) {
-        return Due::Missing;
+    if byte_at(chars, at) == track.mark() {
+        return Ok(None);
     }
     if fits {
-        return Due::Present;
+        return Ok(Some(at));
     }
-    Due::Wrong
+    Err(Reason::WrongLayout)
 }
 
-// The division whose discretionary data start at `rest`.
-fn with_rest(
-    track: Track,
-    chars: &[u8],
-    pan: usize,
-    expiry: Field,
-    service: Field,
-    rest: usize,
-) -> Division
-    ensures { said result ≡ rest_rule track chars.now (record { pan = pan; expiry = expiry; service = service; rest = rest }) }
+// Where the field behind one of n bytes starts, that is due at `at`.
+fn past(n: usize, at: usize, field: Option<usize>) -> usize
+    requires { at + n < 100 }
+    ensures { result ≡ past n at field }
 {
-    if all_allowed(track, text::piece(chars, rest, chars.len())) {
-        return Division::Fields {
-            pan,
-            expiry,
-            service,
-            rest,
-        };
-    }
-    Division::Refused(Reason::WrongLayout)
-}
-
-// The division whose service code is due at `at`.
-fn with_service(track: Track, chars: &[u8], pan: usize, expiry: Field, at: usize) -> Division
-    requires { at < 100 }
-    ensures { said result ≡ service_rule track chars.now pan expiry at }
-{
-    let fits = is_service(text::piece(chars, at, 3));
-    match due_at(track, chars, at, fits) {
-        Due::Missing => with_rest(track, chars, pan, expiry, Field::Absent, at + 1),
-        Due::Present => with_rest(track, chars, pan, expiry, Field::At(at), at + 3),
-        Due::Wrong => Division::Refused(Reason::WrongLayout),
+    match field {
+        None => at + 1,
+        Some(_) => at + n,
     }
 }
 
 // The division whose PAN has `pan` digits and whose expiry is due at `at`.
-pub fn with_expiry(track: Track, chars: &[u8], pan: usize, at: usize) -> Division
+pub fn with_expiry(track: Track, chars: &[u8], pan: usize, at: usize) -> Result<Fields, Reason>
     requires { at < 90 }
     ensures { said result ≡ expiry_rule track chars.now pan at }
 {
-    let fits = is_expiry(text::piece(chars, at, 4));
-    match due_at(track, chars, at, fits) {
-        Due::Missing => with_service(track, chars, pan, Field::Absent, at + 1),
-        Due::Present => with_service(track, chars, pan, Field::At(at), at + 4),
-        Due::Wrong => Division::Refused(Reason::WrongLayout),
+    let expiry = due_at(track, chars, at, is_expiry(text::piece(chars, at, 4)))?;
+    let behind = past(4, at, expiry);
+    let service = due_at(
+        track,
+        chars,
+        behind,
+        is_service(text::piece(chars, behind, 3)),
+    )?;
+    let rest = past(3, behind, service);
+    if !track.allows(text::piece(chars, rest, chars.len())) {
+        return Err(Reason::WrongLayout);
     }
+    Ok(Fields {
+        pan,
+        expiry,
+        service,
+        rest,
+    })
 }
 
 // The n bytes from `at`, in their own place.
@@ -193,12 +148,12 @@ pub fn cut(chars: &[u8], at: usize, n: usize) -> &[u8]
 }
 
 // A field of n bytes; an absent one gives an empty part.
-pub fn field_of(chars: &[u8], f: Field, n: usize) -> &[u8]
-    requires { (field_cut n f).start + (field_cut n f).size ≤ length chars.now }
-    ensures { CutOf chars.entry (field_cut n f) result }
+pub fn field_of(chars: &[u8], field: Option<usize>, n: usize) -> &[u8]
+    requires { (field_cut n field).start + (field_cut n field).size ≤ length chars.now }
+    ensures { CutOf chars.entry (field_cut n field) result }
 {
-    match f {
-        Field::At(at) => cut(chars, at, n),
-        Field::Absent => cut(chars, 0, 0),
+    match field {
+        Some(at) => cut(chars, at, n),
+        None => cut(chars, 0, 0),
     }
 }

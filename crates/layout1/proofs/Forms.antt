@@ -6,10 +6,12 @@ use native.Mathlib.Omega.{arith}
 use lib.ListN.{length, get_or, take, drop}
 use lib.Seq.{drop-drop, drop-append-add, take-append_seam, drop-append_seam}
 use borrow.Author.Tests.{eq-eqb}
+use Rattle.std.proofs.Common.{Option}
+use Rattle.std.specs.List.{prefix_len}
 use Rattle.text.specs.Bytes.{is_digit}
 use Rattle.reasons.specs.Reasons.{gives}
-use Rattle.layout.specs.Layout.{is_named, is_expiry, is_service, leading, lead}
-use Rattle.layout.specs.Grammar.{Optional, written}
+use Rattle.layout.specs.Layout.{is_named, is_expiry, is_service, lead}
+use Rattle.layout.specs.Grammar.{written}
 use Rattle.layout.specs.declared.Track.TheVariants.{One}
 use Rattle.layout.proofs.Forms.{front_byte, lead_is, expiry_is, service_is}
 use Rattle.layout.proofs.Laws.{field_again, behind_expiry, behind_service, tail_accepted}
@@ -17,7 +19,7 @@ use Rattle.layout1.specs.Layout1.{name_length, with_name, fields_rule, name_rule
 use Rattle.layout1.specs.Grammar1.{Pieces, tail_of, text_of, Formed, expiry_at, places_of, pieces_at}
 
 -- pieces with the same parts are the same
-same_pieces : {a a' n n' r r' : List ℕ} {e e' v v' : Optional} → a ≡ a' → n ≡ n' → e ≡ e' → v ≡ v' → r ≡ r'
+same_pieces : {a a' n n' r r' : List ℕ} {e e' v v' : Option (List ℕ)} → a ≡ a' → n ≡ n' → e ≡ e' → v ≡ v' → r ≡ r'
     → ◌≡◌ {A = Pieces} (record { pan = a; name = n; expiry = e; service = v; discretionary = r })
     (record { pan = a'; name = n'; expiry = e'; service = v'; discretionary = r' })
 same_pieces h m i j k = λ x. record { pan = h x; name = m x; expiry = i x; service = j x; discretionary = k x }
@@ -53,7 +55,7 @@ module _ (g : Pieces) where
   form_accepted ok =
       let p : lead (drop 1 (text_of g)) ≡ length g.pan = lead_is is_digit g.pan 94 _ ok.pan_digits refl in
       let n : name_length (text_of g) (length g.pan) ≡ length g.name =
-      ap (leading is_named) from_name ∙ lead_is is_named g.name 94 _ ok.name_right refl in
+      ap (prefix_len is_named) from_name ∙ lead_is is_named g.name 94 _ ok.name_right refl in
       let m = eq-eqb (get_or (text_of g) (length g.pan + 1) 0) 94 (front_byte (text_of g) (length g.pan + 1) _ at_mark) in
       let z = eq-eqb (get_or (text_of g) (length g.pan + length g.name + 2) 0) 94
       (front_byte (text_of g) (length g.pan + length g.name + 2) _ at_end) in

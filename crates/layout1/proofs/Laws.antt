@@ -10,50 +10,41 @@ use lib.ListN.{length, get_or, take, drop, take-append-drop, length-append, leng
 use lib.Seq.{drop-cons, drop-drop, length-take-le}
 use borrow.Author.Tests.{eqb-true}
 use denote.Ref.{Bor}
+use Rattle.std.proofs.Common.{Result}
 use Rattle.text.specs.Bytes.{within, is_digit, every, all_digits}
 use Rattle.text.proofs.Tests.{inside_is, both_true}
 use Rattle.text.proofs.Parts.{Same, part_one}
-use Rattle.reasons.specs.Reasons.{number_of, number_in, gives, refuses}
-use Rattle.reasons.proofs.Laws.{gives_refuses, refuses_one, passed, went_on}
+use Rattle.reasons.specs.Reasons.{number_in, gives, refuses, said}
+use Rattle.reasons.specs.declared.Reason.{Reason}
+use Rattle.reasons.proofs.Laws.{gives_refuses, said_one, passed, went_on}
 use Rattle.pan.specs.Pan.{pan_length}
 use Rattle.layout.specs.Layout.{is_named, is_expiry, is_service, lead, mark_at, expiry_rule, CutOf, field_cut}
-use Rattle.layout.specs.Layout as fields
+use Rattle.layout.specs.declared.Fields.{Fields as Behind}
 use Rattle.layout.specs.Grammar.{written}
 use Rattle.layout.specs.declared.Track.TheVariants.{One}
 use Rattle.layout.proofs.Forms.{present_byte, lead_pass, expiry_is, service_is}
 use Rattle.layout.proofs.Laws.{Tail, tail_there, tail_text, tail_places, field_fits, written_size, placed-start, stops_six, then_six, expiry_six, refused_exactly}
-use Rattle.layout1.specs.Layout1.{Places, name_length, fields_rule, name_rule, layout1_rule, said, pan_cut, name_cut, expiry_cut, service_cut, rest_cut}
+use Rattle.layout1.specs.Layout1.{name_length, fields_rule, name_rule, layout1_rule, pan_cut, name_cut, expiry_cut, service_cut, rest_cut}
 use Rattle.layout1.specs.Grammar1.{Pieces, text_of, Formed, expiry_at, places_of, pieces_at}
-use Rattle.layout1.specs.declared.Division.{Division}
-use Rattle.layout1.specs.declared.Division.TheVariants.{Fields, Refused}
+use Rattle.layout1.specs.declared.Fields.{Fields}
 use Rattle.layout1.proofs.Forms.{form_accepted}
 
--- what is said tells the answer
-pub said_one : (r q : Division) → said r ≡ said q → r ≡ q
-said_one (Fields p n e v r) (Fields p' n' e' v' r') h =
-    let z : ◌≡◌ {A = Places} (record { pan = p; name = n; expiry = e; service = v; rest = r })
-    (record { pan = p'; name = n'; expiry = e'; service = v'; rest = r' }) = cc in
-    ap (λ (d : Places). Fields d.pan d.name d.expiry d.service d.rest) z
-said_one (Fields p n e v r) (Refused b) h = gives_refuses (record { pan = p; name = n; expiry = e; service = v; rest = r }) (number_of b) h
-said_one (Refused a) (Fields p n e v r) h = gives_refuses (record { pan = p; name = n; expiry = e; service = v; rest = r }) (number_of a) (sym h)
-said_one (Refused a) (Refused b) h = ap Refused (refuses_one a b h)
-
 -- any two answers that the promise of divide allows are equal
-pub divide_one : (s : List ℕ) (r q : Division) → said r ≡ layout1_rule s → said q ≡ layout1_rule s → r ≡ q
+pub divide_one : (s : List ℕ) (r q : Result Fields Reason) → said r ≡ layout1_rule s → said q ≡ layout1_rule s → r ≡ q
 divide_one s r q a b = said_one r q (a ∙ sym b)
 
 -- ---- what is accepted has the form
 
 -- these places divide the text: what stands there is formed, makes up the text, and stands there
-pub record Divides (s : List ℕ) (d : Places) : Type 0 where
+pub record Divides (s : List ℕ) (d : Fields) : Type 0 where
   pub formed : Formed (pieces_at s d)
   pub text : text_of (pieces_at s d) ≡ s
   pub places : places_of (pieces_at s d) ≡ d
 
-module _ (s : List ℕ) (p n : ℕ) (x : fields.Places) (code : get_or s 0 0 ≡ 66) (long : pan_length p ≡ true) (digits : all_digits (take p (drop 1 s)) ≡ true)
+module _ (s : List ℕ) (p n : ℕ) (x : Behind) (code : get_or s 0 0 ≡ 66) (long : pan_length p ≡ true) (digits : all_digits (take p (drop 1 s)) ≡ true)
     (mark : get_or s (p + 1) 0 ≡ 94) (some : within 2 26 n ≡ true) (named : every is_named (take n (drop (p + 2) s)) ≡ true) (end : get_or s (p + n + 2) 0 ≡ 94)
     (t : Tail One s p (p + n + 3) x) where
-  abbrev found : Places
+  abbrev found : Fields
   found = record { pan = p; name = n; expiry = x.expiry; service = x.service; rest = x.rest }
 
   mark_in : p + 1 < length s
@@ -101,7 +92,7 @@ module _ (s : List ℕ) (p n : ℕ) (x : fields.Places) (code : get_or s 0 0 ≡
         places = λ i. record { pan = pan_size i; name = name_size i; expiry = w.0 i; service = w.1 i; rest = w.2 i };
       }
 
-pub accepted_form : (s : List ℕ) (d : Places) → layout1_rule s ≡ gives d → Divides s d
+pub accepted_form : (s : List ℕ) (d : Fields) → layout1_rule s ≡ gives d → Divides s d
 unfolding layout1_rule name_rule fields_rule
 accepted_form s d accepted =
     let p = lead (drop 1 s) in
@@ -115,26 +106,26 @@ accepted_form s d accepted =
     let x = f.0 in
     let t = tail_there One s p (p + n + 3) x f.1 in
     let z : record { pan = x.pan; name = n; expiry = x.expiry; service = x.service; rest = x.rest } ≡ d = cc f.2 in
-    let among : ℕ → Places = λ q. record { pan = q; name = n; expiry = x.expiry; service = x.service; rest = x.rest } in
+    let among : ℕ → Fields = λ q. record { pan = q; name = n; expiry = x.expiry; service = x.service; rest = x.rest } in
     subst (Divides s) (sym (ap among t.pan) ∙ z)
     (divides s p n x (eqb-true (get_or s 0 0) 66 c.0) m.0 (lead_pass is_digit (drop 1 s)) (eqb-true (get_or s (p + 1) 0) 94 m.1) e.0
     (lead_pass is_named (drop (p + 2) s)) (eqb-true (get_or s (p + n + 2) 0) 94 e.1) t)
 
 -- so that the parts stand within it
-module _ (s : List ℕ) (d : Places) (accepted : layout1_rule s ≡ gives d) where
+module _ (s : List ℕ) (d : Fields) (accepted : layout1_rule s ≡ gives d) where
   size : length (text_of (pieces_at s d)) ≡ length s
   size = ap length (accepted_form s d accepted).text
 
   pub pan_fits : 1 + d.pan ≤ length s
-  pan_fits = omega (arith, simp length-append at size, ap (λ (x : Places). x.pan) (accepted_form s d accepted).places)
+  pan_fits = omega (arith, simp length-append at size, ap (λ (x : Fields). x.pan) (accepted_form s d accepted).places)
 
   pub name_fits : d.pan + 2 + d.name ≤ length s
   name_fits =
       let a = accepted_form s d accepted in
-      omega (arith, simp length-append at size, ap (λ (x : Places). x.pan) a.places, ap (λ (x : Places). x.name) a.places)
+      omega (arith, simp length-append at size, ap (λ (x : Fields). x.pan) a.places, ap (λ (x : Fields). x.name) a.places)
 
   pub rest_fits : d.rest ≤ length s
-  rest_fits = omega (arith, simp length-append at size, ap (λ (x : Places). x.rest) (accepted_form s d accepted).places)
+  rest_fits = omega (arith, simp length-append at size, ap (λ (x : Fields). x.rest) (accepted_form s d accepted).places)
 
   pub expiry_fits : (field_cut 4 d.expiry).start + (field_cut 4 d.expiry).size ≤ length s
   expiry_fits = field_fits s 4 is_expiry expiry_is d.expiry (accepted_form s d accepted).formed.expiry_right
@@ -143,7 +134,7 @@ module _ (s : List ℕ) (d : Places) (accepted : layout1_rule s ≡ gives d) whe
   service_fits = field_fits s 3 is_service service_is d.service (accepted_form s d accepted).formed.service_right
 
 -- and near its front
-pub places_small : (s : List ℕ) (d : Places) → layout1_rule s ≡ gives d
+pub places_small : (s : List ℕ) (d : Fields) → layout1_rule s ≡ gives d
     → (d.pan ≤ 19) × (d.name ≤ 26) × ((field_cut 4 d.expiry).start ≤ 48) × ((field_cut 3 d.service).start ≤ 52) × (d.rest ≤ 55)
 places_small s d accepted =
     let a = accepted_form s d accepted in
@@ -153,7 +144,7 @@ places_small s d accepted =
     let e = written_size One 4 is_expiry expiry_is g.expiry a.formed.expiry_right in
     let v = written_size One 3 is_service service_is g.service a.formed.service_right in
     subst
-    (λ (x : Places).
+    (λ (x : Fields).
     (x.pan ≤ 19) × (x.name ≤ 26) × ((field_cut 4 x.expiry).start ≤ 48) × ((field_cut 3 x.service).start ≤ 52) × (x.rest ≤ 55))
     a.places (
       p,
@@ -171,7 +162,7 @@ module _ (s : List ℕ) (m : ℕ) where
   fields_six p n =
       then_six (expiry_rule One s p (p + n + 3)) _ m (expiry_six One s m p (p + n + 3)) (λ d. gives_refuses (told n d) m)
     where
-      told : ℕ → fields.Places → Places
+      told : ℕ → Behind → Fields
       told n d = record { pan = d.pan; name = n; expiry = d.expiry; service = d.service; rest = d.rest }
 
   name_six : (p : ℕ) → name_rule s p ≡ refuses m → m ≡ 6

@@ -1,17 +1,15 @@
 -- The division of track 1's characters, test by test.
 use Prim.Native.Nat.{ℕ, ◌+◌, ◌≤◌, ◌<◌}
-use mathlib.Core.Path.{◌≡◌, ap}
+use mathlib.Core.Path.{◌≡◌}
 use mathlib.Core.List.{List}
 use native.Mathlib.Omega.{arith}
 use lib.ListN.{length, get_or, take, drop, length-drop}
 use lib.Seq.{take_all}
 use borrow.Author.Tests.{eq-eqb, ne_eqb}
 use Rattle.text.proofs.Tests.{under, over, inside}
-use Rattle.reasons.specs.Reasons.{Outcome, refuses}
-use Rattle.layout.specs.Layout.{lead, expiry_rule}
-use Rattle.layout.specs.Layout as fields
-use Rattle.layout.specs.declared.Track.TheVariants.{One}
-use Rattle.layout1.specs.Layout1.{name_length, with_name, fields_rule, name_rule, layout1_rule}
+use Rattle.reasons.specs.Reasons.{refuses}
+use Rattle.layout.specs.Layout.{lead}
+use Rattle.layout1.specs.Layout1.{name_length, fields_rule, name_rule, layout1_rule}
 
 -- a piece that is as long as the text is the rest of it
 pub rest_of : (s : List ℕ) (q : ℕ) → take (length s) (drop q s) ≡ drop q s
@@ -61,9 +59,3 @@ module _ (s : List ℕ) where
       pub named : get_or s (p + n + 2) 0 ≡ 94 → fields_rule s p n ≡ name_rule s p
       unfolding name_rule
       named e = rw (← is, inside 2 26 n h l, eq-eqb (get_or s (p + n + 2) 0) 94 e)
-
-  -- ---- the fields behind it
-
-  pub fields_next : (p n : ℕ) (o : Outcome fields.Places) → o ≡ expiry_rule One s p (p + n + 3) → with_name n o ≡ fields_rule s p n
-  unfolding fields_rule
-  fields_next p n o e = ap (with_name n) e

@@ -1,17 +1,17 @@
 -- The form of the characters between track 1's sentinels, as a grammar: what they are put together from.
-use Rattle.std.specs.Prelude.{ℕ, ◌+◌, ◌≡◌, List, ◌∷◌, ◌++◌, true, length, take, drop}
+use Rattle.std.specs.Prelude.{ℕ, ◌+◌, ◌≡◌, List, ◌∷◌, ◌++◌, true, Option, length, take, drop}
 use Rattle.text.specs.Bytes.{within, every, all_digits}
 use Rattle.pan.specs.Pan.{pan_length}
 use Rattle.layout.specs.Layout.{is_named, is_expiry, is_service}
-use Rattle.layout.specs.Grammar.{Optional, written, Passes, placed, field_in}
+use Rattle.layout.specs.Grammar.{written, Passes, placed, field_in}
 use Rattle.layout.specs.declared.Track.TheVariants.{One}
-use Rattle.layout1.specs.Layout1.{Places}
+use Rattle.layout1.specs.declared.Fields.{Fields}
 
 pub record Pieces : Type 0 where
   pub pan : List ℕ
   pub name : List ℕ
-  pub expiry : Optional
-  pub service : Optional
+  pub expiry : Option (List ℕ)
+  pub service : Option (List ℕ)
   pub discretionary : List ℕ
 
 -- "expiry of four digits or `^`, service code of three digits or `^`, discretionary data (perhaps none)"
@@ -35,7 +35,7 @@ pub record Formed (g : Pieces) : Type 0 where
 abbrev pub expiry_at : Pieces → ℕ
 expiry_at g = length g.pan + length g.name + 3
 
-abbrev pub places_of : Pieces → Places
+abbrev pub places_of : Pieces → Fields
 places_of g = record {
   pan = length g.pan;
   name = length g.name;
@@ -45,7 +45,7 @@ places_of g = record {
 }
 
 -- the pieces of a text that stand at these places
-abbrev pub pieces_at : List ℕ → Places → Pieces
+abbrev pub pieces_at : List ℕ → Fields → Pieces
 pieces_at s d = record {
   pan = take d.pan (drop 1 s);
   name = take d.name (drop (d.pan + 2) s);

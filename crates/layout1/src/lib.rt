@@ -2,83 +2,74 @@
 #![tactic(auto)]
 
 ghost use Rattle.std.specs.Prelude.{◌≡◌, ◌≤◌, length};
-ghost use Rattle.reasons.specs.Reasons.{number_in};
+ghost use Rattle.reasons.specs.Reasons.{number_in, said};
 ghost use Rattle.layout.specs.Layout.{CutOf};
-ghost use Rattle.layout1.specs.Layout1.{fields_rule, name_rule, layout1_rule, said, pan_cut, name_cut, expiry_cut, service_cut, rest_cut};
+ghost use Rattle.layout1.specs.Layout1.{fields_rule, name_rule, layout1_rule, pan_cut, name_cut, expiry_cut, service_cut, rest_cut};
 
-use layout::inner::{cut, field_of};
-use layout::{Field, Track};
+use layout::Track;
+use layout::inner::{byte_at, cut, field_of, lead_of, named_of, with_expiry};
 use reasons::Reason;
 
-// The lengths of PAN and name, where expiry and service code stand, and where the discretionary data start; or why the text is refused.
-#[derive(Clone, Copy)]
-pub enum Division {
-    Fields {
-        pan: usize,
-        name: usize,
-        expiry: Field,
-        service: Field,
-        rest: usize,
-    },
-    Refused(Reason),
+// Where the parts stand: the lengths of PAN and name, the places of expiry and service code where there are such, and the start of the
+// discretionary data.
+#[derive(Clone, Copy, Debug, PartialEq, Eq)]
+pub struct Fields {
+    pub pan: usize,
+    pub name: usize,
+    pub expiry: Option<usize>,
+    pub service: Option<usize>,
+    pub rest: usize,
 }
 
 // The division behind a PAN and a name of these lengths, each with its `^`.
-fn with_name(chars: &[u8], pan: usize, name: usize) -> Division
+fn with_name(chars: &[u8], pan: usize, name: usize) -> Result<Fields, Reason>
     requires { (pan ≤ 19) × (name ≤ 26) }
     ensures { said result ≡ fields_rule chars.now pan name }
 {
-    match layout::inner::with_expiry(Track::One, chars, pan, pan + name + 3) {
-        layout::Division::Refused(r) => Division::Refused(r),
-        layout::Division::Fields {
-            pan: p,
-            expiry: e,
-            service: v,
-            rest: r,
-        } => Division::Fields {
-            pan: p,
-            name,
-            expiry: e,
-            service: v,
-            rest: r,
-        },
-    }
+    let d = with_expiry(Track::One, chars, pan, pan + name + 3)?;
+    Ok(Fields {
+        pan: d.pan,
+        name,
+        expiry: d.expiry,
+        service: d.service,
+        rest: d.rest,
+    })
 }
 
 // The division behind a PAN of this length and its `^`.
-fn with_pan(chars: &[u8], pan: usize) -> Division
+fn with_pan(chars: &[u8], pan: usize) -> Result<Fields, Reason>
     requires { pan ≤ 19 }
     ensures { said result ≡ name_rule chars.now pan }
 {
-    let name = layout::inner::named_of(text::piece(chars, pan + 2, chars.len()));
+    let name = named_of(text::piece(chars, pan + 2, chars.len()));
     if name < 2 {
-        return Division::Refused(Reason::WrongLayout);
+        return Err(Reason::WrongLayout);
     }
     if 26 < name {
-        return Division::Refused(Reason::WrongLayout);
+        return Err(Reason::WrongLayout);
     }
-    if layout::inner::byte_at(chars, pan + name + 2) != 94 {
-        return Division::Refused(Reason::WrongLayout);
+    if byte_at(chars, pan + name + 2) != b'^' {
+        return Err(Reason::WrongLayout);
     }
     with_name(chars, pan, name)
 }
 
 // Where the parts of the characters stand.
-pub fn divide(chars: &[u8]) -> Division
+pub fn divide(chars: &[u8]) -> Result<Fields, Reason>
     ensures { said result ≡ layout1_rule chars.now }
 {
-    if layout::inner::byte_at(chars, 0) != 66 {
-        return Division::Refused(Reason::WrongLayout);
+    if byte_at(chars, 0) != b'B' {
+        return Err(Reason::WrongLayout);
     }
-    let pan = layout::inner::lead_of(text::piece(chars, 1, chars.len()));
+    let pan = lead_of(text::piece(chars, 1, chars.len()));
     if pan < 13 {
-        return Division::Refused(Reason::WrongLayout);
+        return Err(Reason::WrongLayout);
     }
     if 19 < pan {
-        return Division::Refused(Reason::WrongLayout);
+        return Err(Reason::WrongLayout);
     }
-    if layout::inner::byte_at(chars, pan + 1) != 94 {
-        return Division::Refused(Reason::WrongLayout);
+    if byte_at(chars, pan + 1) != b'^' {
+        return Err(Reason::WrongLayout);
     }
     with_pan(chars, pan)
 }
@@ -88,14 +79,8 @@ pub fn pan_of(chars: &[u8]) -> &[u8]
     ensures { CutOf chars.entry (pan_cut (layout1_rule chars.now)) result }
 {
     match divide(chars) {
-        Division::Fields {
-            pan,
-            name: _,
-            expiry: _,
-            service: _,
-            rest: _,
-        } => cut(chars, 1, pan),
-        Division::Refused(_) => cut(chars, 0, 0),
+        Ok(d) => cut(chars, 1, d.pan),
+        Err(_) => cut(chars, 0, 0),
     }
 }
 
@@ -104,14 +89,8 @@ pub fn name_of(chars: &[u8]) -> &[u8]
     ensures { CutOf chars.entry (name_cut (layout1_rule chars.now)) result }
 {
     match divide(chars) {
-        Division::Fields {
-            pan,
-            name,
-            expiry: _,
-            service: _,
-            rest: _,
-        } => cut(chars, pan + 2, name),
-        Division::Refused(_) => cut(chars, 0, 0),
+        Ok(d) => cut(chars, d.pan + 2, d.name),
+        Err(_) => cut(chars, 0, 0),
     }
 }
 
@@ -120,14 +99,8 @@ pub fn expiry_of(chars: &[u8]) -> &[u8]
     ensures { CutOf chars.entry (expiry_cut (layout1_rule chars.now)) result }
 {
     match divide(chars) {
-        Division::Fields {
-            pan: _,
-            name: _,
-            expiry,
-            service: _,
-            rest: _,
-        } => field_of(chars, expiry, 4),
-        Division::Refused(_) => cut(chars, 0, 0),
+        Ok(d) => field_of(chars, d.expiry, 4),
+        Err(_) => cut(chars, 0, 0),
     }
 }
 
@@ -136,14 +109,8 @@ pub fn service_of(chars: &[u8]) -> &[u8]
     ensures { CutOf chars.entry (service_cut (layout1_rule chars.now)) result }
 {
     match divide(chars) {
-        Division::Fields {
-            pan: _,
-            name: _,
-            expiry: _,
-            service,
-            rest: _,
-        } => field_of(chars, service, 3),
-        Division::Refused(_) => cut(chars, 0, 0),
+        Ok(d) => field_of(chars, d.service, 3),
+        Err(_) => cut(chars, 0, 0),
     }
 }
 
@@ -152,14 +119,8 @@ pub fn discretionary_of(chars: &[u8]) -> &[u8]
     ensures { CutOf chars.entry (rest_cut (length chars.now) (layout1_rule chars.now)) result }
 {
     match divide(chars) {
-        Division::Fields {
-            pan: _,
-            name: _,
-            expiry: _,
-            service: _,
-            rest,
-        } => cut(chars, rest, chars.len() - rest),
-        Division::Refused(_) => cut(chars, 0, 0),
+        Ok(d) => cut(chars, d.rest, chars.len() - d.rest),
+        Err(_) => cut(chars, 0, 0),
     }
 }
 
@@ -168,13 +129,7 @@ pub fn divide_number(chars: &[u8]) -> u32
     ensures { result ≡ number_in (layout1_rule chars.now) }
 {
     match divide(chars) {
-        Division::Fields {
-            pan: _,
-            name: _,
-            expiry: _,
-            service: _,
-            rest: _,
-        } => 0,
-        Division::Refused(r) => reasons::number(r),
+        Ok(_) => 0,
+        Err(why) => reasons::number(why),
     }
 }

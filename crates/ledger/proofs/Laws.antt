@@ -7,29 +7,23 @@ use native.Mathlib.Omega.{arith}
 use lib.ListN.{get_or, length}
 use Rattle.text.specs.Bytes.{within}
 use Rattle.text.proofs.Tests.{under, over}
-use Rattle.reasons.specs.Reasons.{gives, demand, number_of}
-use Rattle.reasons.proofs.Laws.{gives_refuses, refuses_one, passed}
+use Rattle.reasons.specs.Reasons.{gives, demand}
+use Rattle.reasons.specs.declared.Reason.{Reason}
+use Rattle.reasons.proofs.Laws.{said_one, passed}
 use Rattle.reasons.specs.declared.Reason.TheVariants.{WrongLayout}
 use Rattle.slots.specs.Record.{is_held, is_record, length_fits, kept, serial_at, amount_at, length_at, state_at, Good}
 use Rattle.slots.specs.Journal.{Tells}
 use Rattle.slots.proofs.Ranges.{tells_yes, tells_no}
 use Rattle.slots.proofs.Records.{u32_in, good_same}
-use Rattle.ledger.specs.Ledger.{HeldRecord, sound, opened, is_next, wants, moved, take_rule, said_taken, Takes}
+use Rattle.ledger.specs.Ledger.{HeldRecord, sound, opened, is_next, wants, moved, take_rule, Takes}
 use Rattle.ledger.specs.declared.Ledger.{Ledger}
-use Rattle.ledger.specs.declared.Taken.{Taken}
-use Rattle.ledger.specs.declared.Taken.TheVariants.{Now, Refused}
+use Rattle.std.proofs.Common.{Result, Ok, Err}
 use Rattle.ledger.proofs.Rule.{sound_is, is_sound, next-none, is_next_lem, foreign, unmoved, moves_on}
 
 -- ---- any two outcomes that a call allows are equal
 
 pub fresh_one : (r q : Ledger) → r ≡ opened → q ≡ opened → r ≡ q
 fresh_one r q a b = a ∙ sym b
-
-pub taken_one : (r q : Taken) → said_taken r ≡ said_taken q → r ≡ q
-taken_one (Now k) (Now l) e = let n : k ≡ l = cc in ap Now n
-taken_one (Now k) (Refused b) e = gives_refuses k (number_of b) e
-taken_one (Refused a) (Now l) e = gives_refuses l (number_of a) (sym e)
-taken_one (Refused a) (Refused b) e = ap Refused (refuses_one a b e)
 
 -- a question has one answer
 tells_one : {P : Type 0} (t u : Bool) → Tells t P → Tells u P → t ≡ u
@@ -38,9 +32,9 @@ tells_one true false a b = absurd (b.1 refl (a.0 refl))
 tells_one false true a b = absurd (a.1 refl (b.0 refl))
 tells_one false false a b = refl
 
-pub take_one : (l : Ledger) (message : List ℕ) (r q : Taken) → Takes l message r → Takes l message q → r ≡ q
+pub take_one : (l : Ledger) (message : List ℕ) (r q : Result Ledger Reason) → Takes l message r → Takes l message q → r ≡ q
 take_one l message r q a b =
-    taken_one r q (a.says ∙ ap (λ (t : Bool). take_rule t l message) (tells_one a.held b.held a.tells b.tells) ∙ sym b.says)
+    said_one r q (a.says ∙ ap (λ (t : Bool). take_rule t l message) (tells_one a.held b.held a.tells b.tells) ∙ sym b.says)
 
 -- ---- what a message does
 
@@ -56,7 +50,7 @@ pub record Heard (l : Ledger) (message : List ℕ) (k : Ledger) : Type 0 where
   pub is : cond (wants l message) (moved l message) l ≡ k
   pub did : Did l message k
 
-pub heard : (l : Ledger) (message : List ℕ) (k : Ledger) → Takes l message (Now k) → Heard l message k
+pub heard : (l : Ledger) (message : List ℕ) (k : Ledger) → Takes l message (Ok k) → Heard l message k
 unfolding take_rule
 heard l message k w =
     let a = passed w.held 6 _ k (sym w.says) in
@@ -69,20 +63,20 @@ heard l message k w =
     go false q e = left_alone q (sym e)
 
 -- "A message that isn't a held record by the journal's rules is refused with 6 and changes nothing"
-pub not_held_refused : (l : Ledger) (message : List ℕ) (r : Taken) → (HeldRecord message → ⊥) → Takes l message r → r ≡ Refused WrongLayout
-not_held_refused l message r h w = take_one l message r (Refused WrongLayout) w (foreign l message false (tells_no h) refl)
+pub not_held_refused : (l : Ledger) (message : List ℕ) (r : Result Ledger Reason) → (HeldRecord message → ⊥) → Takes l message r → r ≡ Err WrongLayout
+not_held_refused l message r h w = take_one l message r (Err WrongLayout) w (foreign l message false (tells_no h) refl)
 
 -- a held record is not refused by a ledger that messages led to
-pub held_taken : (l : Ledger) (message : List ℕ) (r : Taken) → HeldRecord message → sound l.taken l.total ≡ true → Takes l message r
-    → r ≡ Now (cond (wants l message) (moved l message) l)
+pub held_taken : (l : Ledger) (message : List ℕ) (r : Result Ledger Reason) → HeldRecord message → sound l.taken l.total ≡ true → Takes l message r
+    → r ≡ Ok (cond (wants l message) (moved l message) l)
 held_taken l message r h fine w = take_one l message r _ w (by (wants l message) refl)
   where
-    by : (t : Bool) → wants l message ≡ t → Takes l message (Now (cond t (moved l message) l))
+    by : (t : Bool) → wants l message ≡ t → Takes l message (Ok (cond t (moved l message) l))
     by true q = moves_on l message true (tells_yes h) refl fine (l.taken + 1) (amount_at message 0) (sym (is_next_lem l.taken (serial_at message 0) q).1) refl q
     by false q = unmoved l message true (tells_yes h) refl fine q
 
 -- "After the last serial it wants nothing and takes nothing more"
-pub last_takes_nothing : (l : Ledger) (message : List ℕ) (k : Ledger) → l.taken ≡ 4294967295 → Takes l message (Now k) → k ≡ l
+pub last_takes_nothing : (l : Ledger) (message : List ℕ) (k : Ledger) → l.taken ≡ 4294967295 → Takes l message (Ok k) → k ≡ l
 last_takes_nothing l message k h w =
     sym (heard l message k w).is ∙ ap (λ (t : Bool). cond t (moved l message) l) (next-none l.taken (serial_at message 0) (omega arith))
 
@@ -91,7 +85,7 @@ last_takes_nothing l message k h w =
 pub opened-sound : sound opened.taken opened.total ≡ true
 opened-sound = is_sound 0 0 (omega arith) (omega arith)
 
-pub stays_sound : (l : Ledger) (message : List ℕ) (k : Ledger) → amount_at message 0 < 4294967296 → Takes l message (Now k) → sound k.taken k.total ≡ true
+pub stays_sound : (l : Ledger) (message : List ℕ) (k : Ledger) → amount_at message 0 < 4294967296 → Takes l message (Ok k) → sound k.taken k.total ≡ true
 stays_sound l message k small w = go (heard l message k w).did
   where
     go : Did l message k → sound k.taken k.total ≡ true
@@ -138,7 +132,7 @@ module _ (m q : List ℕ) (size : length m ≡ length q) (same : (i : ℕ) → i
 
 -- so a message's clock decides nothing
 pub clock_take : (m q : List ℕ) → length m ≡ length q → ((i : ℕ) → i < 32 → within 4 7 i ≡ false → get_or m i 0 ≡ get_or q i 0)
-    → (l : Ledger) (r : Taken) → Takes l m r → Takes l q r
+    → (l : Ledger) (r : Result Ledger Reason) → Takes l m r → Takes l q r
 clock_take m q size same l r w = record {
   held = w.held;
   tells = (

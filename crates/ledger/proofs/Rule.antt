@@ -12,7 +12,7 @@ use Rattle.slots.specs.Record.{serial_at, amount_at}
 use Rattle.slots.specs.Journal.{Tells}
 use Rattle.ledger.specs.Ledger.{HeldRecord, sound, is_next, wants, moved, take_rule, Takes}
 use Rattle.ledger.specs.declared.Ledger.{Ledger}
-use Rattle.ledger.specs.declared.Taken.TheVariants.{Now, Refused}
+use Rattle.std.proofs.Common.{Ok, Err}
 
 -- ---- a sound ledger
 
@@ -53,7 +53,7 @@ module _ (l : Ledger) (message : List ℕ) where
   -- ---- what is answered
 
   module _ (held : Bool) (tells : Tells held (HeldRecord message)) where
-    pub foreign : held ≡ false → Takes l message (Refused WrongLayout)
+    pub foreign : held ≡ false → Takes l message (Err WrongLayout)
     unfolding take_rule
     foreign h = record {
       held = held;
@@ -66,7 +66,7 @@ module _ (l : Ledger) (message : List ℕ) where
       unfolding take_rule
       into = sym (ap (λ (t : Bool). demand t 6 (demand (sound l.taken l.total) 6 (gives (cond (wants l message) (moved l message) l)))) yes)
 
-      pub unsound : sound l.taken l.total ≡ false → Takes l message (Refused WrongLayout)
+      pub unsound : sound l.taken l.total ≡ false → Takes l message (Err WrongLayout)
       unsound h = record {
         held = held;
         tells = tells;
@@ -77,7 +77,7 @@ module _ (l : Ledger) (message : List ℕ) where
         given : gives (cond (wants l message) (moved l message) l) ≡ take_rule held l message
         given = sym (ap (λ (t : Bool). demand t 6 (gives (cond (wants l message) (moved l message) l))) fine) ∙ into
 
-        pub unmoved : wants l message ≡ false → Takes l message (Now l)
+        pub unmoved : wants l message ≡ false → Takes l message (Ok l)
         unmoved h = record {
           held = held;
           tells = tells;
@@ -85,7 +85,7 @@ module _ (l : Ledger) (message : List ℕ) where
         }
 
         pub moves_on : (serial amount : ℕ) → serial ≡ serial_at message 0 → amount ≡ amount_at message 0 → wants l message ≡ true
-            → Takes l message (Now (record { taken = serial; total = l.total + amount }))
+            → Takes l message (Ok (record { taken = serial; total = l.total + amount }))
         moves_on serial amount es ea h = record {
           held = held;
           tells = tells;

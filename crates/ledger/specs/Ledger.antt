@@ -1,11 +1,10 @@
 -- The host's ledger: which messages it takes, and what they do to it.
-use Rattle.std.specs.Prelude.{ℕ, ◌+◌, ◌*◌, ◌≤◌, ◌<◌, ◌≡◌, Bool, true, cond, ◌&&◌, List, eqb, leb, ltb, get_or, length}
-use Rattle.reasons.specs.Reasons.{Outcome, gives, refuses, demand, number_of}
+use Rattle.std.specs.Prelude.{ℕ, ◌+◌, ◌*◌, ◌≤◌, ◌<◌, ◌≡◌, Bool, true, cond, ◌&&◌, List, eqb, leb, ltb, get_or, length, Result, Ok}
+use Rattle.reasons.specs.Reasons.{Outcome, gives, demand, said}
+use Rattle.reasons.specs.declared.Reason.{Reason}
 use Rattle.slots.specs.Record.{is_held, serial_at, amount_at, state_at, Good}
 use Rattle.slots.specs.Journal.{Tells}
 use Rattle.ledger.specs.declared.Ledger.{Ledger}
-use Rattle.ledger.specs.declared.Taken.{Taken}
-use Rattle.ledger.specs.declared.Taken.TheVariants.{Now, Refused}
 
 -- "a held record by the journal's rules": 32 bytes that are a good record of a serial from 1 on, and held
 pub record HeldRecord (message : List ℕ) : Type 0 where
@@ -41,15 +40,11 @@ take_rule held l message =
     (demand (sound l.taken l.total) 6
     (gives (cond (wants l message) (moved l message) l)))
 
-abbrev pub said_taken : Taken → Outcome Ledger
-said_taken (Now l) = gives l
-said_taken (Refused r) = refuses (number_of r)
-
 -- what a message to the ledger l allows as answer r: the rule, for what the message is (it can't be both: `take_one`)
-pub record Takes (l : Ledger) (message : List ℕ) (r : Taken) : Type 0 where
+pub record Takes (l : Ledger) (message : List ℕ) (r : Result Ledger Reason) : Type 0 where
   pub held : Bool
   pub tells : Tells held (HeldRecord message)
-  pub says : said_taken r ≡ take_rule held l message
+  pub says : said r ≡ take_rule held l message
 
 -- a message is bytes
 pub record Bytes (message : List ℕ) : Type 0 where
@@ -58,4 +53,4 @@ pub record Bytes (message : List ℕ) : Type 0 where
 -- a ledger that messages lead to, starting from a fresh one; those refused change nothing (which ledgers these are: `led_to_exactly`)
 pub data LedTo : Ledger → Type 0 where
   at_first : LedTo opened
-  by_message : {l k : Ledger} (message : List ℕ) → LedTo l → Bytes message → Takes l message (Now k) → LedTo k
+  by_message : {l k : Ledger} (message : List ℕ) → LedTo l → Bytes message → Takes l message (Ok k) → LedTo k

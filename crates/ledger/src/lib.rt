@@ -14,13 +14,6 @@ pub struct Ledger {
     pub total: u64,
 }
 
-// The ledger after a message, or why it was refused.
-#[derive(Clone, Copy)]
-pub enum Taken {
-    Now(Ledger),
-    Refused(Reason),
-}
-
 // A fresh ledger.
 pub fn fresh() -> Ledger
     ensures { result ≡ opened }
@@ -45,45 +38,42 @@ fn is_held_record(message: &[u8]) -> bool
     slots::is_held(message[15])
 }
 
-// Whether messages can have led to such a ledger.
-fn is_sound(taken: u32, total: u64) -> bool
-    ensures { result ≡ sound taken total }
-{
-    if total < taken as u64 {
-        return false;
+impl Ledger {
+    // Whether messages can have led to it.
+    #[tactic(auto, unfolding(crate::specs::Ledger::sound))]
+    fn is_sound(self) -> bool
+        ensures { result ≡ sound self.taken self.total }
+    {
+        let taken = u64::from(self.taken);
+        taken <= self.total && self.total <= taken * 4294967295
     }
-    total <= taken as u64 * 4294967295
-}
 
-// Whether a serial is the next one; after the last there is none.
-fn is_next(taken: u32, serial: u32) -> bool
-    ensures { result ≡ is_next taken serial }
-{
-    if taken < 4294967295 {
-        return serial == taken + 1;
+    // Whether a serial is the next one; after the last there is none.
+    #[tactic(auto, unfolding(crate::specs::Ledger::is_next))]
+    fn wants(self, serial: u32) -> bool
+        ensures { result ≡ is_next self.taken serial }
+    {
+        self.taken < 4294967295 && serial == self.taken + 1
     }
-    false
 }
 
 // Takes a message: the record of the wanted serial is added, any other held record changes nothing.
-pub fn take(ledger: Ledger, message: &[u8]) -> Taken
+pub fn take(ledger: Ledger, message: &[u8]) -> Result<Ledger, Reason>
     ensures { Takes ledger message.now result }
 {
     if !is_held_record(message) {
-        return Taken::Refused(Reason::WrongLayout);
+        return Err(Reason::WrongLayout);
     }
-    let taken = ledger.taken;
-    let total = ledger.total;
-    if !is_sound(taken, total) {
-        return Taken::Refused(Reason::WrongLayout);
+    if !ledger.is_sound() {
+        return Err(Reason::WrongLayout);
     }
     let serial = text::u32_at(message, 0);
-    if !is_next(taken, serial) {
-        return Taken::Now(ledger);
+    if !ledger.wants(serial) {
+        return Ok(ledger);
     }
-    let sum = total + text::u32_at(message, 8) as u64;
-    Taken::Now(Ledger {
+    let amount = text::u32_at(message, 8);
+    Ok(Ledger {
         taken: serial,
-        total: sum,
+        total: ledger.total + u64::from(amount),
     })
 }

@@ -1,8 +1,8 @@
--- What holds of a source of lines, its buffer and the line's.
+-- What holds of a line and the buffer that it was taken into.
 use Rattle.std.specs.Prelude.{ℕ, ◌≤◌, List, length}
-use Rattle.lines.specs.declared.Source.{Source}
+use Rattle.lines.specs.declared.Line.{Line}
+use Rattle.lines.specs.declared.Line.TheVariants.{Taken, TooLong}
 
-pub record Within (input line : List ℕ) (s : Source) : Type 0 where
-  pub order : s.at ≤ s.end
-  pub read : s.end ≤ length input
-  pub taken : s.length ≤ length line
+abbrev pub Within : List ℕ → Line → Type 0
+Within line (Taken n) = n ≤ length line
+Within line TooLong = Unit {0}

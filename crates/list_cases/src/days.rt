@@ -1,5 +1,5 @@
 // Swipes on dates that no command keeps, outside 2000 to 2099 or no real day, and on days beside them.
-use crate::{answered, swiped};
+use crate::{answered, swiped, terms};
 use dates::Date;
 use samples::{EVERY, NONE, W11};
 use say::Output;
@@ -8,8 +8,6 @@ use say::Output;
 const LASTING: [u8; 15] = *b"\x8B\x84\x10\x42\x08\x21\x84\x10\x42\x08\xA1\xB5\x00\xC3\x0F";
 
 fn swipe(out: &mut Output, stream: &[u8], bits: u64, amount: u32, date: Date) {
-    let every = EVERY;
-    let none = NONE;
     let numbers = [
         amount as u64,
         date.year as u64,
@@ -17,26 +15,27 @@ fn swipe(out: &mut Output, stream: &[u8], bits: u64, amount: u32, date: Date) {
         date.day as u64,
     ];
     say::sentence(out, b" for # on # # #: ", &numbers);
-    answered(out, swiped(stream, bits, &every, &none, 16, amount, date));
+    answered(
+        out,
+        swiped(stream, bits, terms(&EVERY, &NONE, 16), amount, date),
+    );
 }
 
 // W11, which expires in December 2025, on a date.
 fn on(out: &mut Output, amount: u32, year: u32, month: u32, day: u32) {
-    let w11 = W11;
     say::words(out, b"swipe of W11");
-    swipe(out, &w11, 135, amount, Date { year, month, day });
+    swipe(out, &W11, 135, amount, Date { year, month, day });
 }
 
 // The card without an expiry, on the first of January.
 fn lasting_in(out: &mut Output, year: u32) {
-    let lasting = LASTING;
     let date = Date {
         year,
         month: 1,
         day: 1,
     };
     say::words(out, b"swipe of a card without an expiry");
-    swipe(out, &lasting, 120, 250, date);
+    swipe(out, &LASTING, 120, 250, date);
 }
 
 // The ends of the century, and of the card's time.

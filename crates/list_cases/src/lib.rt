@@ -3,12 +3,13 @@
 
 mod days;
 
-use dates::{Date, Left};
-use hotcards::in_use;
+use dates::Date;
 use layout::Track;
+use payer::Terms;
+use reasons::Reason;
 use samples::{DAY, EVERY, NONE, W11};
 use say::Output;
-use swipe::Swiped;
+use swipe::Receipt;
 
 // ---- the question
 
@@ -36,39 +37,40 @@ fn ask_wrong(out: &mut Output, what: &[u8], list: &[u64], digits: u32) {
 }
 
 fn ask_all_wrong(out: &mut Output) {
-    let none = NONE;
-    let falling = [42u64, 0];
-    let twice = [42u64, 42];
-    let large = [10000000000000u64];
-    ask_wrong(out, b"too short: ", &none, 12);
-    ask_wrong(out, b"too long: ", &none, 20);
-    ask_wrong(out, b"42, 0: ", &falling, 13);
-    ask_wrong(out, b"42, 42: ", &twice, 13);
-    ask_wrong(out, b"10000000000000: ", &large, 13);
+    ask_wrong(out, b"too short: ", &NONE, 12);
+    ask_wrong(out, b"too long: ", &NONE, 20);
+    ask_wrong(out, b"42, 0: ", &[42, 0], 13);
+    ask_wrong(out, b"42, 42: ", &[42, 42], 13);
+    ask_wrong(out, b"10000000000000: ", &[10000000000000], 13);
 }
 
 // ---- the swipe
+
+// A table of the site's, none of the acquirer's, and a list of numbers of so many digits.
+fn terms<'a>(site: &'a [u8], hot: &'a [u64], digits: u32) -> Terms<'a> {
+    Terms {
+        site,
+        acquirer: b"",
+        hot,
+        digits,
+    }
+}
 
 // A swipe of track 2, in an empty journal of one slot.
 fn swiped(
     stream: &[u8],
     bits: u64,
-    site: &[u8],
-    list: &[u64],
-    digits: u32,
+    terms: Terms<'_>,
     amount: u32,
     date: Date,
-) -> Swiped {
+) -> Result<Receipt, Reason> {
     let mut scratch = [0u8; 37];
     let mut journal = [0u8; 32];
     swipe::swipe(
         Track::Two,
         stream,
         bits,
-        site,
-        b"",
-        list,
-        digits,
+        terms,
         amount,
         date,
         0,
@@ -77,28 +79,27 @@ fn swiped(
     )
 }
 
-// What a card has left.
-fn left_of(out: &mut Output, left: Left) {
+// The days that a card has left.
+fn left_of(out: &mut Output, left: Option<u32>) {
     match left {
-        Left::Days(n) => say::value(out, b"days ", n as u64),
-        Left::NoExpiry => say::words(out, b"no expiry"),
+        Some(days) => say::value(out, b"days ", days as u64),
+        None => say::words(out, b"no expiry"),
     }
 }
 
-fn answered(out: &mut Output, answer: Swiped) {
+fn answered(out: &mut Output, answer: Result<Receipt, Reason>) {
     match answer {
-        Swiped::Booked(_, left) => {
+        Ok(receipt) => {
             say::words(out, b"booked, ");
-            left_of(out, left);
+            left_of(out, receipt.left);
             say::line(out);
         }
-        Swiped::Refused(why) => say::refused(out, why),
+        Err(why) => say::refused(out, why),
     }
 }
 
 // W11 swiped with this table of the site's and this list.
 fn swipe(out: &mut Output, site: &[u8], list: &[u64], digits: u32, amount: u32) {
-    let w11 = W11;
     let numbers = [
         amount as u64,
         site.len() as u64,
@@ -110,16 +111,17 @@ fn swipe(out: &mut Output, site: &[u8], list: &[u64], digits: u32, amount: u32) 
         b"swipe of W11 for #, a table of # bytes, # numbers of # digits: ",
         &numbers,
     );
-    answered(out, swiped(&w11, 135, site, list, digits, amount, DAY));
+    answered(
+        out,
+        swiped(&W11, 135, terms(site, list, digits), amount, DAY),
+    );
 }
 
 // A wrong list comes after a wrong table, and before an amount of 0.
 fn swipe_wrong(out: &mut Output) {
-    let every = EVERY;
-    let none = NONE;
-    swipe(out, &every[0..15], &none, 12, 0);
-    swipe(out, &every, &none, 12, 0);
-    swipe(out, &every, &none, 13, 0);
+    swipe(out, &EVERY[..15], &NONE, 12, 0);
+    swipe(out, &EVERY, &NONE, 12, 0);
+    swipe(out, &EVERY, &NONE, 13, 0);
 }
 
 // ---- the longest list
@@ -127,22 +129,19 @@ fn swipe_wrong(out: &mut Output) {
 // Numbers that rise by one.
 fn rising() -> [u64; 8193] {
     let mut list = [0u64; 8193];
-    let mut i = 0;
-    while i < 8193 {
+    for i in 0..8193 {
         list[i] = 4111111111110000 + i as u64;
-        i += 1;
     }
     list
 }
 
-fn longest(out: &mut Output, list: &[u64]) {
-    let every = EVERY;
-    ask_ends(out, in_use(list, 8192));
+fn longest(out: &mut Output, list: &[u64; 8193]) {
+    ask_ends(out, &list[..8192]);
     ask(out, list, 16, b"4111111111110000");
-    swipe(out, &every, in_use(list, 8192), 16, 250);
-    swipe(out, &every, in_use(list, 1112), 16, 250);
-    swipe(out, &every, in_use(list, 1111), 16, 250);
-    swipe(out, &every, list, 16, 250);
+    swipe(out, &EVERY, &list[..8192], 16, 250);
+    swipe(out, &EVERY, &list[..1112], 16, 250);
+    swipe(out, &EVERY, &list[..1111], 16, 250);
+    swipe(out, &EVERY, list, 16, 250);
 }
 
 pub fn run(out: &mut Output) {

@@ -1,3 +1,2 @@
 pub mod Stats
-pub mod Lines
 pub mod Laws

@@ -13,27 +13,23 @@ fn after_name(stat: &[u8]) -> &[u8]
     ensures { result.now ≡ after_name stat.now }
 {
     let mut at = stat.len();
-    let mut i = 0;
-    while i < stat.len() {
-        let closes = stat[i] == 41;
+    for (i, &b) in stat.iter().enumerate() {
+        let closes = b == b')';
         if closes {
             at = i + 1;
         }
-        i += 1;
     }
     &stat[at..]
 }
 
 // When a process started, field 22 of its stat line; empty where it has ended (state Z or X, field 3).
+#[tactic(auto, unfolding(crate::specs::Stat::start_time, crate::specs::Stat::ended))]
 pub fn start_time(stat: &[u8]) -> &[u8]
     ensures { result.now ≡ start_time stat.now }
 {
     let fields = after_name(stat);
     let state = script::word(fields, 1);
-    if script::is_same(state, b"Z") {
-        return &stat[..0];
-    }
-    if script::is_same(state, b"X") {
+    if script::is_same(state, b"Z") || script::is_same(state, b"X") {
         return &stat[..0];
     }
     script::word(fields, 20)
@@ -42,30 +38,23 @@ pub fn start_time(stat: &[u8]) -> &[u8]
 // ---- a line of the queue
 
 // A line's bytes before anything is written into it: spaces, and the line feed that ends it.
+#[tactic(auto, unfolding(crate::specs::Line::blank_line))]
 pub fn blank() -> [u8; 128]
     ensures { (result ≡ blank_line) × (128 ≡ length result) }
 {
-    let mut line = [32u8; 128];
-    line[127] = 10;
+    let mut line = [b' '; 128];
+    line[127] = b'\n';
     line
 }
 
 // Writes a process's line into a blank one; false where what should stand in it isn't known, or doesn't fit.
+#[tactic(auto, unfolding(crate::specs::Line::fits, crate::specs::Line::signed, crate::specs::Line::line_of))]
 pub fn sign(pid: &[u8], start: &[u8], boot: &[u8], line: &mut [u8]) -> bool
     requires { 128 ≤ length line.old }
     ensures value { result ≡ fits pid.now start.now boot.now }
     ensures line_after { line.new ≡ signed line.old pid.now start.now boot.now }
 {
-    if start.len() == 0 {
-        return false;
-    }
-    if 20 < pid.len() {
-        return false;
-    }
-    if 20 < start.len() {
-        return false;
-    }
-    if 36 < boot.len() {
+    if start.is_empty() || 20 < pid.len() || 20 < start.len() || 36 < boot.len() {
         return false;
     }
     text::put_at(line, 0, pid);
@@ -75,6 +64,7 @@ pub fn sign(pid: &[u8], start: &[u8], boot: &[u8], line: &mut [u8]) -> bool
 }
 
 // Whether a line is that of the process of this number and start time, in this boot, which the own line names.
+#[tactic(auto, unfolding(crate::specs::Line::is_now, crate::specs::Line::signed))]
 pub fn is_now(line: &[u8], own: &[u8], pid: &[u8], start: &[u8]) -> bool
     ensures { result ≡ is_now line.now own.now pid.now start.now }
 {

@@ -3,6 +3,7 @@ use mathlib.Core.Path.{◌≡◌, refl, sym, ap, ◌∙◌}
 use mathlib.Core.Bool.{Bool, true, false, not}
 use mathlib.Core.List.{List, [], ◌∷◌, ◌++◌}
 use mathlib.Core.Logic.{◌⊎◌, ◌↔◌, inl, inr, ⊎_elim}
+use Rattle.std.specs.Prelude.{Result}
 use Prim.Native.Nat.{ℕ, zero, suc, ◌+◌, ◌-◌, ◌*◌, ◌/◌, ◌%◌, ◌≤◌, ◌<◌}
 use native.Mathlib.Omega.{arith}
 use lib.ListN.{length, length-append}
@@ -12,31 +13,23 @@ use Rattle.text.specs.Bytes.{within, is_digit, every, all_digits}
 use Rattle.text.proofs.Tests.{inside, inside_is}
 use Rattle.text.proofs.Every.{every_both, every_left, every_right, every_cons, every_head}
 use Rattle.text.proofs.Numbers.{digit_small}
-use Rattle.reasons.specs.Reasons.{gives, refuses, demand, number_of, said}
-use Rattle.reasons.specs.declared.Tested.{Tested}
-use Rattle.reasons.proofs.Laws.{passed, gives_refuses, refuses_one, said_one}
-use Rattle.luhn.specs.Luhn.{even, doubled, weighed, luhn_sum, passes, luhn_rule, check_digit, make_rule, said_made}
+use Rattle.reasons.specs.Reasons.{gives, refuses, demand, said}
+use Rattle.reasons.specs.declared.Reason.{Reason}
+use Rattle.reasons.proofs.Laws.{passed, said_one}
+use Rattle.luhn.specs.Luhn.{even, doubled, weighed, luhn_sum, passes, luhn_rule, check_digit, make_rule}
 use Rattle.luhn.specs.Sum.{sum_from}
-use Rattle.luhn.specs.declared.Made.{Made}
-use Rattle.luhn.specs.declared.Made.TheVariants.{Digit, Refused}
 use Rattle.luhn.proofs.Summing.{weighed_small, sum_snoc, sum_shifted, length_snoc}
 use Rattle.luhn.proofs.Rule.{test_right, test_wrong}
 
 -- ---- one answer
 
 -- any two answers that the promise of `test` allows are equal
-pub test_one : (s : List ℕ) (r q : Tested) → said r ≡ luhn_rule s → said q ≡ luhn_rule s → r ≡ q
+pub test_one : (s : List ℕ) (r q : Result (Unit {0}) Reason) → said r ≡ luhn_rule s → said q ≡ luhn_rule s → r ≡ q
 test_one s r q e f = said_one r q (e ∙ sym f)
 
-said_made_one : (r q : Made) → said_made r ≡ said_made q → r ≡ q
-said_made_one (Digit x) (Digit y) e = let n : x ≡ y = cc in ap Digit n
-said_made_one (Digit x) (Refused b) e = gives_refuses x (number_of b) e
-said_made_one (Refused a) (Digit y) e = gives_refuses y (number_of a) (sym e)
-said_made_one (Refused a) (Refused b) e = ap Refused (refuses_one a b e)
-
 -- and so for `make`
-pub make_one : (s : List ℕ) (r q : Made) → said_made r ≡ make_rule s → said_made q ≡ make_rule s → r ≡ q
-make_one s r q e f = said_made_one r q (e ∙ sym f)
+pub make_one : (s : List ℕ) (r q : Result ℕ Reason) → said r ≡ make_rule s → said q ≡ make_rule s → r ≡ q
+make_one s r q e f = said_one r q (e ∙ sym f)
 
 -- ---- making
 

@@ -1,14 +1,15 @@
 -- The sum from the right: one turn of its loop, and the two sums that the rules ask for.
 use mathlib.Core.Path.{◌≡◌, refl, sym, ap, ◌∙◌, subst}
 use mathlib.Core.Bool.{Bool, true, false, not, ◌&&◌, and-false}
-use mathlib.Core.List.{List, [], ◌∷◌, ◌++◌}
+use mathlib.Core.List.{List, [], ◌∷◌, ◌++◌, reverse}
 use Prim.Native.Nat.{ℕ, zero, suc, ◌+◌, ◌-◌, ◌*◌, ◌≤◌, ◌<◌}
 use native.Mathlib.Omega.{arith}
 use native.Mathlib.Numerals.{add-one}
 use native.Mathlib.Nat.{add_comm, not-suc-le-zero, le_of_suc-le-suc}
-use lib.ListN.{length, drop, get_or, length-append}
+use lib.ListN.{length, drop, drop_of_length-le, get_or, length-append}
 use lib.Seq.{drop-cons}
 use lib.Dec.{leb}
+use Rattle.std.proofs.lemmas.List.{get_or-reverse, get_or_default, length-reverse}
 use borrow.Author.Tests.{leb-true}
 use Rattle.text.specs.Bytes.{is_digit, every, all_digits}
 use Rattle.text.proofs.Every.{every_cons}
@@ -41,22 +42,30 @@ drop-back s i h k =
     let e : suc (i - 1) ≡ i = omega arith in
     drop-cons s (i - 1) 0 lt ∙ ap (λ (n : ℕ). get_or s (i - 1) 0 ∷ drop n s) e
 
-pub start : (s : List ℕ) (last : Bool) → length s ≤ 100 → drop (length s) s ≡ [] → At s last 0 last (length s)
+pub start : (s : List ℕ) (last : Bool) (i : ℕ) → length s ≤ 100 → i ≡ length s → At s last 0 last i
 unfolding every twice sum_from
-start s last h e = record {
-  in_text = omega arith;
-  small = omega arith;
-  digits = ap all_digits e;
-  flag = sym (ap (λ (l : List ℕ). twice last (length l)) e);
-  sum = sym (ap (sum_from last) e);
-}
+start s last i h n =
+    let e : drop i s ≡ [] = drop_of_length-le s (omega arith) in
+    record {
+      in_text = omega arith;
+      small = omega arith;
+      digits = ap all_digits e;
+      flag = sym (ap (λ (l : List ℕ). twice last (length l)) e);
+      sum = sym (ap (sum_from last) e);
+    }
 
-pub turn : (s : List ℕ) (last : Bool) (total : ℕ) (tw : Bool) (i : ℕ) (w : ℕ) → At s last total tw i → 0 < i → is_digit (get_or s (i - 1) 0) ≡ true
-    → w ≡ weighed tw (get_or s (i - 1) 0 - 48) → At s last (total + w) (not tw) (i - 1)
+-- the byte that comes after k others from the right
+pub from_right : (s : List ℕ) (k b : ℕ) → (k < length (reverse s)) × (b ≡ get_or (reverse s) k b) → (0 < length s - k) × (b ≡ get_or s (length s - k - 1) 0)
+from_right s k b h =
+    let l : k < length s = omega (arith, h.0, length-reverse s) in
+    let e : length s - 1 - k ≡ length s - k - 1 = omega arith in
+    (omega arith, h.1 ∙ get_or-reverse s k b l ∙ ap (λ (n : ℕ). get_or s n b) e ∙ get_or_default s (length s - k - 1) b 0 (omega arith))
+
+pub turn : (s : List ℕ) (last : Bool) (total : ℕ) (tw : Bool) (i b w : ℕ) → At s last total tw i → (0 < i) × (b ≡ get_or s (i - 1) 0) → is_digit b ≡ true
+    → w ≡ weighed tw (b - 48) → At s last (total + w) (not tw) (i - 1)
 unfolding twice sum_from
-turn s last total tw i w a h y e =
-    let b : ℕ = get_or s (i - 1) 0 in
-    let d : drop (i - 1) s ≡ b ∷ drop i s = drop-back s i h a.in_text in
+turn s last total tw i b w a h y e =
+    let d : drop (i - 1) s ≡ b ∷ drop i s = drop-back s i h.0 a.in_text ∙ ap (λ (n : ℕ). n ∷ drop i s) (sym h.1) in
     let r = digit_small b y in
     let k : weighed tw (b - 48) ≤ 9 = weighed_small tw (b - 48) (omega arith) in
     record {

@@ -1,9 +1,7 @@
 -- The Luhn rule of document 01 (ISO/IEC 7812-1, annex on the check digit).
 use Rattle.std.specs.Prelude.{ℕ, zero, suc, ◌+◌, ◌-◌, ◌*◌, ◌%◌, Bool, true, false, not, cond, List, [], ◌∷◌, ◌++◌, length, leb, eqb}
 use Rattle.text.specs.Bytes.{within, all_digits}
-use Rattle.reasons.specs.Reasons.{Outcome, gives, refuses, demand, number_of}
-use Rattle.luhn.specs.declared.Made.{Made}
-use Rattle.luhn.specs.declared.Made.TheVariants.{Digit, Refused}
+use Rattle.reasons.specs.Reasons.{Outcome, gives, demand}
 
 unfoldable pub even : ℕ → Bool
 even zero = true
@@ -46,8 +44,3 @@ make_rule s =
     demand (within 1 39 (length s)) 2
     (demand (all_digits s) 3
     (gives (check_digit s)))
-
--- what an answer of making says in the paper's terms
-abbrev pub said_made : Made → Outcome ℕ
-said_made (Digit b) = gives b
-said_made (Refused r) = refuses (number_of r)

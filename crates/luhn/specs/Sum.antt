@@ -1,10 +1,8 @@
 -- What `sum` gives: a text's sum from the right, whose last digit is doubled or not.
 use Rattle.std.specs.Prelude.{ℕ, zero, suc, ◌+◌, ◌-◌, Bool, not, List, [], ◌∷◌, length}
 use Rattle.text.specs.Bytes.{within, all_digits}
-use Rattle.reasons.specs.Reasons.{number_of, Outcome, gives, refuses, demand}
+use Rattle.reasons.specs.Reasons.{Outcome, gives, demand}
 use Rattle.luhn.specs.Luhn.{weighed}
-use Rattle.luhn.specs.declared.Summed.{Summed}
-use Rattle.luhn.specs.declared.Summed.TheVariants.{Sum, Refused}
 
 -- whether a digit with n digits after it is doubled, the last one being as `last` says
 unfoldable pub twice : Bool → ℕ → Bool
@@ -21,7 +19,3 @@ sum_rule least most last s =
     demand (within least most (length s)) 2
     (demand (all_digits s) 3
     (gives (sum_from last s)))
-
-abbrev pub said_sum : Summed → Outcome ℕ
-said_sum (Sum n) = gives n
-said_sum (Refused r) = refuses (number_of r)

@@ -9,15 +9,11 @@ use lib.Dec.{eqb}
 use lib.ListN.{length, get_or, set, take, drop, length-set}
 use lib.Seq.{get_or-set_other}
 use borrow.Author.Tests.{eq-eqb, eqb-true}
-use Rattle.reasons.specs.Reasons.{number_of}
-use Rattle.reasons.proofs.Laws.{gives_refuses, refuses_one}
 use Rattle.text.specs.Bytes.{swap, within, is_digit}
 use Rattle.text.proofs.Tests.{inside, inside_is, both_true}
 use Rattle.mod97.specs.Kinds.{Digit, Capital, Mixed, Unseen}
 use Rattle.mod97.specs.Text.{number}
-use Rattle.mod97.specs.Pair.{leaves, pair_digits, pair_of, checks, paired, pair_for, said_made}
-use Rattle.mod97.specs.declared.Made.{Made}
-use Rattle.mod97.specs.declared.Made.TheVariants.{Pair, Refused}
+use Rattle.mod97.specs.Pair.{leaves, pair_digits, pair_of, checks, paired, pair_for}
 use Rattle.mod97.proofs.Numbers.{number-low, digit_one, capital_two, eleven_blind, blind_kinds}
 use Rattle.mod97.proofs.OnePair.{made_leaves_one, one_leaves_one}
 use Rattle.mod97.proofs.Places.{moved_two_one, moved_one_two}
@@ -145,10 +141,3 @@ pair_is_made (a ∷ b ∷ c ∷ d ∷ body) l h k =
     let s = a ∷ b ∷ c ∷ d ∷ body in
     let (m, e) = whole a b c d body h in
     (checks_made a b body (pair_of s) m).0 (ap checks (sym e) ∙ k)
-
--- what is said tells the answer
-pub said_made_one : (r q : Made) → said_made r ≡ said_made q → r ≡ q
-said_made_one (Pair x) (Pair y) e = let n : x ≡ y = cc in ap Pair n
-said_made_one (Pair x) (Refused b) e = gives_refuses x (number_of b) e
-said_made_one (Refused a) (Pair y) e = gives_refuses y (number_of a) (sym e)
-said_made_one (Refused a) (Refused b) e = ap Refused (refuses_one a b e)

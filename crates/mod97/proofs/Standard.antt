@@ -2,7 +2,7 @@
 -- pair (4).
 use Prim.Native.Nat.{ℕ, suc, ◌+◌, ◌%◌, ◌/◌, ◌<◌, ◌≤◌}
 use mathlib.Core.Path.{◌≡◌, sym, ap, ◌∙◌}
-use mathlib.Core.Bool.{Bool, true, false}
+use mathlib.Core.Bool.{Bool, true}
 use mathlib.Core.List.{List, [], ◌∷◌}
 use mathlib.Core.Logic.{◌↔◌}
 use native.Mathlib.Omega.{arith}
@@ -10,8 +10,8 @@ use lib.ListN.{length, get_or}
 use Rattle.text.specs.Bytes.{within, every, swap}
 use Rattle.text.proofs.Every.{every_swap, every_cons, every_both}
 use Rattle.text.proofs.Tests.{inside_is}
-use Rattle.reasons.specs.Reasons.{Outcome, gives, refuses, demand}
-use Rattle.reasons.proofs.Laws.{passed, passes_on, stops}
+use Rattle.reasons.specs.Reasons.{Outcome, gives, demand}
+use Rattle.reasons.proofs.Laws.{passed, passes_on}
 use Rattle.mod97.specs.Kinds.{Mixed, Unseen}
 use Rattle.mod97.specs.Pair.{checks, paired, pair_for}
 use Rattle.mod97.proofs.Pairs.{swap-length, neighbours_checks, checks_made}
@@ -36,7 +36,7 @@ pub record AllYes (a : Answers) : Type 0 where
   pub right_layout : a.layout ≡ true
 
 module _ {A : Type 0} (a : Answers) (next : Outcome A) where
-  -- a value is given exactly where all four are yes,
+  -- a value is given exactly where all four are yes
   pub all_yes : (v : A) → asked a next ≡ gives v → AllYes a × (next ≡ gives v)
   all_yes v h =
       let at-layout = demand a.layout 6 next in
@@ -49,21 +49,6 @@ module _ {A : Type 0} (a : Answers) (next : Outcome A) where
 
   pub goes_on : AllYes a → asked a next ≡ next
   goes_on y = simp (y.right_count, y.right_bytes, y.right_country, y.right_layout)
-
-  -- and the first no is the refusal
-  pub count_refused : a.count ≡ false → refuses 2 ≡ asked a next
-  count_refused n = simp n
-
-  module _ (p : a.count ≡ true) where
-    pub byte_refused : a.bytes ≡ false → refuses 3 ≡ asked a next
-    byte_refused n = simp (p, n)
-
-    module _ (q : a.bytes ≡ true) where
-      pub country_refused : a.country ≡ false → refuses 5 ≡ asked a next
-      country_refused n = simp (p, q, n)
-
-      pub layout_refused : a.country ≡ true → a.layout ≡ false → refuses 6 ≡ asked a next
-      layout_refused r n = simp (p, q, r, n)
 
 -- ---- testing
 
@@ -90,10 +75,6 @@ module _ (d : Standard) where
 
   pub accepts : (s : List ℕ) → AllYes (answers d s) → checks s ≡ true → gives tt ≡ rule d s
   accepts s y p = sym (goes_on (answers d s) (demand (checks s) 4 (gives tt)) y ∙ passes_on (checks s) 4 (gives tt) p)
-
-  -- where nothing but the pair is wrong the refusal is 4
-  pub pair_wrong : (s : List ℕ) → AllYes (answers d s) → checks s ≡ false → refuses 4 ≡ rule d s
-  pair_wrong s y n = sym (goes_on (answers d s) (demand (checks s) 4 (gives tt)) y ∙ stops (checks s) 4 (gives tt) n)
 
   -- of a standard whose texts are neither too short nor too long, the laws on refusals hold
   pub sound : 4 ≤ d.low → d.high < 48 → (s : List ℕ) → rule d s ≡ gives tt → Sound s

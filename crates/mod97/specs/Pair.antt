@@ -1,10 +1,7 @@
 -- The check pair at places 3 and 4 of a text (ISO 7064, MOD 97-10): when it passes, and how it is made.
 use Rattle.std.specs.Prelude.{ℕ, ◌+◌, ◌*◌, ◌-◌, ◌%◌, ◌/◌, Bool, ◌&&◌, List, [], ◌∷◌, ◌++◌, eqb, get_or, take, drop}
 use Rattle.text.specs.Bytes.{within, is_digit}
-use Rattle.reasons.specs.Reasons.{Outcome, gives, refuses, number_of}
 use Rattle.mod97.specs.Text.{number, decimal_of}
-use Rattle.mod97.specs.declared.Made.{Made}
-use Rattle.mod97.specs.declared.Made.TheVariants.{Pair, Refused}
 
 -- the first four characters moved to the end
 abbrev pub moved : List ℕ → List ℕ
@@ -33,8 +30,3 @@ paired letters p body = letters ++ ((48 + p / 10) ∷ (48 + p % 10) ∷ []) ++ b
 -- 98 less the remainder with 00 in the check places
 unfoldable pub pair_for : List ℕ → List ℕ → ℕ
 pair_for letters body = 98 - leaves (paired letters 0 body)
-
--- what making answers, in the paper's terms
-abbrev pub said_made : Made → Outcome ℕ
-said_made (Pair p) = gives p
-said_made (Refused r) = refuses (number_of r)

@@ -3,14 +3,12 @@ ghost use Rattle.std.specs.Prelude.{◌≡◌, [], ◌∷◌, ◌<◌, ◌≤◌
 ghost use Rattle.mod97.specs.Text.{number, number_after};
 ghost use Rattle.mod97.specs.Pair.{leaves, pair_digits, pair_of, checks, pair_for};
 
+#[tactic(auto, unfolding(crate::specs::Text::number))]
 fn number_of(b: u8) -> u64
     ensures { (result ≡ number b) × (result ≤ 200) }
 {
-    if b < 65 {
-        if b < 48 {
-            return 0;
-        }
-        return (b - 48) as u64;
+    if b < b'A' {
+        return b.saturating_sub(b'0') as u64;
     }
     (b - 55) as u64
 }
@@ -41,10 +39,8 @@ fn read_after(s: &[u8], start: u64) -> u64
     ensures { result % 97 ≡ number_after start s.now % 97 }
 {
     let mut v = start;
-    let mut i = 0;
-    while i < s.len() {
-        v = written_after(with_room(v), s[i]);
-        i += 1;
+    for &b in s {
+        v = written_after(with_room(v), b);
     }
     v
 }
@@ -59,16 +55,15 @@ fn moved_remainder(s: &[u8]) -> u64
 }
 
 // Whether places 3 and 4 hold digits.
+#[tactic(auto, unfolding(crate::specs::Pair::pair_digits))]
 pub fn pair_digits(s: &[u8]) -> bool
     requires { 4 ≤ length s.now }
     ensures { result ≡ pair_digits s.now }
 {
-    if !text::is_digit(s[2]) {
-        return false;
-    }
-    text::is_digit(s[3])
+    text::is_digit(s[2]) && text::is_digit(s[3])
 }
 
+#[tactic(auto, unfolding(crate::specs::Pair::pair_of))]
 fn pair_of(s: &[u8]) -> u64
     requires { 4 ≤ length s.now }
     ensures { result ≡ pair_of s.now }
@@ -77,18 +72,13 @@ fn pair_of(s: &[u8]) -> u64
 }
 
 // Whether the pair is 02 to 98 and the remainder 1.
+#[tactic(auto, unfolding(crate::specs::Pair::checks))]
 pub fn checks_out(s: &[u8]) -> bool
     requires { 4 ≤ length s.now }
     ensures { result ≡ checks s.now }
 {
     let p = pair_of(s);
-    if p < 2 {
-        return false;
-    }
-    if 98 < p {
-        return false;
-    }
-    moved_remainder(s) == 1
+    2 <= p && p <= 98 && moved_remainder(s) == 1
 }
 
 // The pair that is made for two letters and a body.

@@ -1,14 +1,10 @@
 -- Numbers in decimal and bytes in hexadecimal, as words write them.
-use Rattle.std.specs.Prelude.{ℕ, ◌+◌, ◌-◌, ◌*◌, ◌/◌, ◌%◌, Bool, cond, ◌&&◌, List, [], ◌∷◌, leb, ltb, eqb, length}
+use Rattle.std.specs.Prelude.{ℕ, ◌+◌, ◌-◌, ◌*◌, ◌/◌, ◌%◌, Bool, cond, ◌&&◌, List, [], ◌∷◌, leb, ltb, eqb, length, Result, Ok, Err}
 use Rattle.text.specs.Bytes.{within, every, all_digits}
 use Rattle.text.specs.Numbers.{decimal, put}
 use Rattle.reasons.specs.Reasons.{Outcome, gives, refuses, demand, after}
 use Rattle.numerals.specs.declared.Unclear.{Unclear}
 use Rattle.numerals.specs.declared.Unclear.TheVariants.{NotNumber, LargeNumber, NotBytes, ManyBytes}
-use Rattle.numerals.specs.declared.Number.{Number}
-use Rattle.numerals.specs.declared.Number.TheVariants as number
-use Rattle.numerals.specs.declared.Bytes.{Bytes}
-use Rattle.numerals.specs.declared.Bytes.TheVariants as bytes
 
 -- why a word isn't understood, by numbers of this crate's own
 abbrev pub why_number : Unclear → ℕ
@@ -17,16 +13,17 @@ why_number LargeNumber = 2
 why_number NotBytes = 3
 why_number ManyBytes = 4
 
+-- what is understood of a word, in these terms
+abbrev pub said_word : {A : Type 0} → Result A Unclear → Outcome A
+said_word (Ok v) = gives v
+said_word (Err why) = refuses (why_number why)
+
 -- a number: one digit or more, and not above the most that its field holds
 unfoldable pub number_rule : List ℕ → ℕ → Outcome ℕ
 number_rule w most =
     demand (ltb 0 (length w) && all_digits w) 1
     (demand (leb (decimal w) most) 2
     (gives (decimal w)))
-
-abbrev pub said_number : Number → Outcome ℕ
-said_number (number.Is n) = gives n
-said_number (number.Isnt why) = refuses (why_number why)
 
 -- what a hexadecimal digit, capital or small, stands for; 16 for any other byte
 unfoldable pub hex_value : ℕ → ℕ
@@ -47,10 +44,6 @@ bytes_rule w room =
     demand (eqb (length w % 2) 0 && every is_hex w) 3
     (demand (leb (length w / 2) room) 4
     (gives (length w / 2)))
-
-abbrev pub said_bytes : Bytes → Outcome ℕ
-said_bytes (bytes.Count n) = gives n
-said_bytes (bytes.Isnt why) = refuses (why_number why)
 
 -- the room afterwards: the bytes at its front, and where the word isn't understood all as it was
 unfoldable pub bytes_room : List ℕ → List ℕ → List ℕ

@@ -3,11 +3,25 @@
 
 pub mod notices;
 
-ghost use Rattle.std.specs.Prelude.{◌≤◌, length};
+ghost use Rattle.std.specs.Prelude.{◌≤◌, length, IfOk};
 
-use numerals::Number;
 use std::env::FillError;
 use std::rt::Env;
+
+// How many slots a new journal is to have.
+#[derive(Clone, Copy)]
+pub struct Size {
+    pub slots: usize,
+    ghost in_range: { slots ≤ 2048 },
+}
+
+// What is done with a journal's file.
+#[derive(Clone, Copy)]
+pub enum Way {
+    Change,
+    Look,
+    Make(Size),
+}
 
 // What is asked; a journal's name by the number of its argument.
 #[derive(Clone, Copy)]
@@ -15,10 +29,7 @@ pub enum Asked {
     Memory,
     Help,
     Version,
-    Existing(usize),
-    ReadOnly(usize),
-    New(usize),
-    Unclear(Fault),
+    Journal(Way, usize),
 }
 
 // What isn't understood; an option by the number of its argument.
@@ -30,19 +41,10 @@ pub enum Fault {
     NotSlots,
 }
 
-#[derive(Clone, Copy)]
-enum Name {
-    At(usize),
-    Not(Fault),
-}
-
 // Whether there is an argument i; the program's name is argument 0.
 fn is_there<R: Env>(rt: &R, i: usize) -> bool {
     let mut start = [0u8; 1];
-    match rt.arg(i, &mut start) {
-        Err(FillError::NotPresent) => false,
-        _ => true,
-    }
+    !matches!(rt.arg(i, &mut start), Err(FillError::NotPresent))
 }
 
 // Argument i, into the front of a buffer: how many bytes it has, 0 where it isn't there or has no room.
@@ -52,104 +54,65 @@ fn argument<R: Env>(rt: &R, i: usize, room: &mut [u8]) -> usize
     rt.arg(i, room).unwrap_or(0)
 }
 
-// Whether argument i is this word.
-fn says<R: Env>(rt: &R, i: usize, word: &[u8]) -> bool {
-    let mut room = [0u8; 4096];
-    let n = argument(rt, i, &mut room);
-    script::is_same(&room[..n], word)
-}
-
-fn is_option<R: Env>(rt: &R, i: usize) -> bool {
-    let mut room = [0u8; 4096];
-    if argument(rt, i, &mut room) == 0 {
-        return false;
-    }
-    room[0] == 45
-}
-
 // The journal's name as the last argument, with `before` others before it.
-fn last<R: Env>(rt: &R, before: usize) -> Name {
+fn last<R: Env>(rt: &R, before: usize) -> Result<usize, Fault> {
     if !is_there(rt, before) {
-        return Name::Not(Fault::NoName);
+        return Err(Fault::NoName);
     }
     if is_there(rt, before.saturating_add(1)) {
-        return Name::Not(Fault::ManyWords);
+        return Err(Fault::ManyWords);
     }
-    Name::At(before)
+    Ok(before)
 }
 
 // The journal's name, argument i or what follows a `--` there, which ends the options.
-fn named<R: Env>(rt: &R, i: usize) -> Name
+fn named<R: Env>(rt: &R, i: usize) -> Result<usize, Fault>
     requires { i ≤ 3 }
 {
-    if says(rt, i, b"--") {
-        return last(rt, i + 1);
+    let mut room = [0u8; 4096];
+    let n = argument(rt, i, &mut room);
+    match &room[..n] {
+        b"--" => last(rt, i + 1),
+        [b'-', ..] => Err(Fault::Unknown(i)),
+        _ => last(rt, i),
     }
-    if is_option(rt, i) {
-        return Name::Not(Fault::Unknown(i));
-    }
-    last(rt, i)
 }
 
-// How many slots a new journal is to have, argument 2; 0 where that isn't a number from 1 to 2,048.
-pub fn slots<R: Env>(rt: &R) -> usize
-    ensures { result ≤ 2048 }
-{
+// How many slots a new journal is to have, argument 2: a number from 1 to 2,048.
+fn slots<R: Env>(rt: &R) -> Result<Size, Fault> {
     let mut room = [0u8; 4096];
     let n = argument(rt, 2, &mut room);
     match numerals::number_in(&room[..n], 2048) {
-        Number::Is(count) => count as usize,
-        Number::Isnt(_) => 0,
-    }
-}
-
-fn asked_new<R: Env>(rt: &R) -> Asked {
-    if slots(rt) == 0 {
-        return Asked::Unclear(Fault::NotSlots);
-    }
-    match named(rt, 3) {
-        Name::At(i) => Asked::New(i),
-        Name::Not(fault) => Asked::Unclear(fault),
-    }
-}
-
-fn asked_read_only<R: Env>(rt: &R) -> Asked {
-    match named(rt, 2) {
-        Name::At(i) => Asked::ReadOnly(i),
-        Name::Not(fault) => Asked::Unclear(fault),
-    }
-}
-
-fn asked_existing<R: Env>(rt: &R) -> Asked {
-    match named(rt, 1) {
-        Name::At(i) => Asked::Existing(i),
-        Name::Not(fault) => Asked::Unclear(fault),
+        Ok(n) if 0 < n => Ok(Size { slots: n as usize }),
+        _ => Err(Fault::NotSlots),
     }
 }
 
 // What needs no other word.
-fn alone<R: Env>(rt: &R, what: Asked) -> Asked {
+fn alone<R: Env>(rt: &R, what: Asked) -> Result<Asked, Fault> {
     if is_there(rt, 2) {
-        return Asked::Unclear(Fault::ManyWords);
+        return Err(Fault::ManyWords);
     }
-    what
+    Ok(what)
 }
 
-pub fn read<R: Env>(rt: &R) -> Asked {
+// A journal that is made.
+fn made<R: Env>(rt: &R) -> Result<Asked, Fault> {
+    let size = slots(rt)?;
+    Ok(Asked::Journal(Way::Make(size), named(rt, 3)?))
+}
+
+pub fn read<R: Env>(rt: &R) -> Result<Asked, Fault> {
     if !is_there(rt, 1) {
-        return Asked::Memory;
+        return Ok(Asked::Memory);
     }
-    if says(rt, 1, b"--help") {
-        return alone(rt, Asked::Help);
+    let mut room = [0u8; 4096];
+    let n = argument(rt, 1, &mut room);
+    match &room[..n] {
+        b"--help" => alone(rt, Asked::Help),
+        b"--version" => alone(rt, Asked::Version),
+        b"--new" => made(rt),
+        b"--read-only" => Ok(Asked::Journal(Way::Look, named(rt, 2)?)),
+        _ => Ok(Asked::Journal(Way::Change, named(rt, 1)?)),
     }
-    if says(rt, 1, b"--version") {
-        return alone(rt, Asked::Version);
-    }
-    if says(rt, 1, b"--new") {
-        return asked_new(rt);
-    }
-    if says(rt, 1, b"--read-only") {
-        return asked_read_only(rt);
-    }
-    asked_existing(rt)
 }

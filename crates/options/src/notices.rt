@@ -1,6 +1,8 @@
 // What the program says of itself and its file: answers on standard output, causes and usage on standard error.
 use super::{Fault, argument};
-use std::io::{Error, ErrorKind, IsTerminal, Print};
+use std::env::FillError;
+use std::fmt::Display;
+use std::io::{Error, IsTerminal, Print};
 use std::rt::Env;
 use waiting::{Streams, causes};
 
@@ -52,27 +54,14 @@ pub fn usage<R: Env>(rt: &R, streams: Streams, fault: Fault) {
 pub fn help(streams: Streams) {
     answer(
         streams,
-        b"card                       a journal of 2048 slots in memory\n",
-    );
-    answer(
-        streams,
-        b"card JOURNAL               the journal in that file\n",
-    );
-    answer(
-        streams,
-        b"card --new SLOTS JOURNAL   makes that file, 1 to 2048 slots, and uses it\n",
-    );
-    answer(
-        streams,
-        b"card --read-only JOURNAL   the journal in that file, which isn't changed\n",
-    );
-    answer(
-        streams,
-        b"card --help, --version     this text; the library's version\n",
-    );
-    answer(
-        streams,
-        b"-- ends the options. Commands are read from standard input, one a line.\n",
+        b"\
+card                       a journal of 2048 slots in memory
+card JOURNAL               the journal in that file
+card --new SLOTS JOURNAL   makes that file, 1 to 2048 slots, and uses it
+card --read-only JOURNAL   the journal in that file, which isn't changed
+card --help, --version     this text; the library's version
+-- ends the options. Commands are read from standard input, one a line.
+",
     );
 }
 
@@ -96,35 +85,30 @@ pub fn unheard(streams: Streams) {
 const ENAMETOOLONG: i32 = 36;
 
 // A name that can't be a file's: an empty one, or one too long.
-pub fn nameless(streams: Streams, long: bool) {
-    if long {
-        let why = Error::from_raw_os_error(ENAMETOOLONG);
-        causes::fail(streams.errors, b"card: the journal's name", why);
-    } else {
-        remark(streams, b"card: the journal's name is empty\n");
+pub fn nameless(streams: Streams, why: FillError) {
+    match why {
+        FillError::NotPresent => remark(streams, b"card: the journal's name is empty\n"),
+        FillError::TooLong => {
+            let why = Error::from_raw_os_error(ENAMETOOLONG);
+            causes::fail(streams.errors, b"card: the journal's name", why);
+        }
     }
     answer(streams, b"disk error: the journal could not be opened\n");
 }
 
 // What could not be done with the journal, and why.
-pub fn failed(streams: Streams, name: &[u8], what: &[u8], why: Error) {
+pub fn failed(streams: Streams, name: &[u8], what: impl Display + Drop, why: Error) {
     remark(streams, b"card: ");
     causes::fail(streams.errors, name, why);
-    answer(streams, b"disk error: the journal could not be ");
-    answer(streams, what);
-    answer(streams, b"\n");
+    let _ = streams.output.println(format_args!("disk error: the journal could not be {what}"));
 }
 
-// A file that could not be opened; where there is none, how one is made.
-pub fn not_opened(streams: Streams, name: &[u8], why: Error) {
-    let missing = why.kind() == ErrorKind::NotFound;
-    failed(streams, name, b"opened", why);
-    if missing {
-        remark(
-            streams,
-            b"card: a journal is made by card --new SLOTS JOURNAL\n",
-        );
-    }
+// How a journal is made, where there was none.
+pub fn missing(streams: Streams) {
+    remark(
+        streams,
+        b"card: a journal is made by card --new SLOTS JOURNAL\n",
+    );
 }
 
 pub fn in_use(streams: Streams, name: &[u8], pid: u64) {
@@ -139,10 +123,7 @@ pub fn in_use(streams: Streams, name: &[u8], pid: u64) {
 // ---- what it finds in its file
 
 pub fn at_terminal(streams: Streams) -> bool {
-    if !streams.input.is_terminal() {
-        return false;
-    }
-    streams.output.is_terminal()
+    streams.input.is_terminal() && streams.output.is_terminal()
 }
 
 fn greeting(streams: Streams, name: &[u8], length: usize) {

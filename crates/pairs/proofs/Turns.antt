@@ -8,12 +8,11 @@ use lib.Bits.{bit_xor}
 use lib.ListN.{length, take, drop, set, length-set, length-drop}
 use lib.Seq.{take-take, take-add, drop-drop, drop_at, length-take-le}
 use Rattle.reasons.specs.Reasons.{gives}
-use Rattle.stream.specs.Stream.{stream, number, odd_ones}
-use Rattle.stream.proofs.Streams.{part, length-stream}
+use Rattle.stream.specs.Stream.{number, odd_ones}
+use Rattle.stream.proofs.Streams.{part}
 use Rattle.stream.proofs.Numbers.{number-take, number-drop}
 use Rattle.pairs.specs.Pairs.{pair_of, GoOn, with_two}
 use Rattle.chars.specs.Reading.{Letters, next, body}
-use Rattle.chars.specs.Shape.{letters_of}
 use Rattle.chars.proofs.Chars.{char_is}
 use Rattle.chars.proofs.Bodies.{turn}
 
@@ -43,62 +42,29 @@ module _ (l : List Bool) (long : 10 ≤ length l) (w : ℕ) (is : w ≡ number (
       by false u a b q = absurd (omega arith)
 
 -- one look is two turns: the bytes with two characters more
-module _ (l : Letters) (v : Bool) (s : List ℕ) (c p more len x r : ℕ) (out : List ℕ) (four : l.data_bits ≡ 4) (there : p + 10 ≤ c)
-    (room : len + 1 < more) (fits : more ≤ length out) (is : r ≡ pair_of (number (part (stream v s c) p 10))) (on : GoOn l.end_number r) where
-  chars : (gives (r % 16) ≡ next 4 (drop p (stream v s c))) × (gives (r / 16) ≡ next 4 (drop 5 (drop p (stream v s c))))
-  chars = both_there (drop p (stream v s c)) (rw (length-drop, length-stream) (omega arith)) _ refl r is on.both
+module _ (l : Letters) (s : List Bool) (p more len x r : ℕ) (out : List ℕ) (four : l.data_bits ≡ 4) (there : p + 10 ≤ length s)
+    (room : len + 1 < more) (fits : more ≤ length out) (is : r ≡ pair_of (number (part s p 10))) (on : GoOn l.end_number r) where
+  chars : (gives (r % 16) ≡ next 4 (drop p s)) × (gives (r / 16) ≡ next 4 (drop 5 (drop p s)))
+  chars = both_there (drop p s) (rw length-drop (omega arith)) _ refl r is on.both
 
-  char_in : (q i : ℕ) → q ≡ p + i → (n : ℕ) → gives n ≡ next 4 (drop i (drop p (stream v s c)))
-      → gives n ≡ next l.data_bits (drop q (stream v s c))
+  char_in : (q i : ℕ) → q ≡ p + i → (n : ℕ) → gives n ≡ next 4 (drop i (drop p s))
+      → gives n ≡ next l.data_bits (drop q s)
   char_in q i e n f = rw (four, e, ← drop-drop) f
 
-  two_turns : body l (more - len) x (take len out) (drop p (stream v s c))
-      ≡ body l (more - (len + 2)) (bit_xor (bit_xor x (r % 16)) (r / 16)) (take (len + 2) (with_two out len l.base r)) (drop (p + 10) (stream v s c))
+  two_turns : body l (more - len) x (take len out) (drop p s)
+      ≡ body l (more - (len + 2)) (bit_xor (bit_xor x (r % 16)) (r / 16)) (take (len + 2) (with_two out len l.base r)) (drop (p + 10) s)
   two_turns =
       let i : p + l.data_bits + 1 + l.data_bits + 1 ≡ p + 10 = omega arith in
       let j : len + 1 + 1 ≡ len + 2 = omega arith in
-      turn l v s c p more len x (r % 16) out (omega arith) (char_in p 0 (omega arith) (r % 16) chars.0) (omega arith) on.one
-      ∙ turn l v s c (p + l.data_bits + 1) more (len + 1) (bit_xor x (r % 16)) (r / 16) (set out len (l.base + r % 16)) (omega arith)
+      turn l s p more len x (r % 16) out (omega arith) (char_in p 0 (omega arith) (r % 16) chars.0) (omega arith) on.one
+      ∙ turn l s (p + l.data_bits + 1) more (len + 1) (bit_xor x (r % 16)) (r / 16) (set out len (l.base + r % 16)) (omega arith)
       (char_in (p + l.data_bits + 1) 5 (omega arith) (r / 16) chars.1) (rw length-set (omega arith)) on.other
       ∙ rw (i, j)
 
   -- and what is left behind them, in the bytes and the exclusive or that take_two leaves
   pub two_taken : (y : ℕ) (new : List ℕ) → y ≡ bit_xor (bit_xor x (r % 16)) (r / 16) → new ≡ with_two out len l.base r
-      → body l (more - len) x (take len out) (drop p (stream v s c)) ≡ body l (more - (len + 2)) y (take (len + 2) new) (drop (p + 10) (stream v s c))
+      → body l (more - len) x (take len out) (drop p s) ≡ body l (more - (len + 2)) y (take (len + 2) new) (drop (p + 10) s)
   two_taken y new e w = two_turns ∙ rw (e, w)
 
 pub length_two : (out : List ℕ) (len base r : ℕ) → length (with_two out len base r) ≡ length out
 length_two out len base r = rw (length-set, length-set)
-
--- a look before the last one that there may be: its bits are there, its characters have room, and where the next one stands
-pub record Fits (count from limit looks at len room : ℕ) : Type 0 where
-  pub there : at + 32 ≤ count
-  pub ten : at + 10 ≤ count
-  pub next : at + 10 ≡ from + 5 * (len + 2)
-  pub within : len + 2 ≤ 2 * looks
-  pub less : 2 * looks - (len + 2) < 2 * looks - len
-  pub even : (len + 2) % 2 ≡ 0
-  pub more : len + 1 < limit - 1
-  pub fits : limit - 1 ≤ room
-  pub both : len + 2 ≤ room
-
-pub look_fits : (count from limit looks at len room lent : ℕ) → at ≡ from + 5 * len → len % 2 ≡ 0 → len < 2 * looks → 2 * looks ≤ limit - 1
-    → 10 * looks ≤ count - from - 22 → limit ≤ lent + 1 → room ≡ lent → Fits count from limit looks at len room
-look_fits count from limit looks at len room lent a e l m b o q =
-    record {
-      there = omega arith;
-      ten = omega arith;
-      next = omega arith;
-      within = omega arith;
-      less = omega arith;
-      even = omega arith;
-      more = omega arith;
-      fits = omega arith;
-      both = omega arith;
-    }
-
--- what was shown for four data bits is so where there are four
-pub of_four : (d last base : ℕ) → d ≡ 4 → (k x : ℕ) (out : List ℕ) (s : List Bool) (m y : ℕ) (now : List ℕ) (t : List Bool)
-    → body (letters_of 4 last base) k x out s ≡ body (letters_of 4 last base) m y now t
-    → body (letters_of d last base) k x out s ≡ body (letters_of d last base) m y now t
-of_four d last base e k x out s m y now t h = rw e h

@@ -5,11 +5,13 @@ mod entries;
 
 ghost use Rattle.std.specs.Prelude.{◌≡◌, false, ◌+◌, ◌-◌, ◌*◌, ◌/◌, ◌%◌, ◌≤◌, ◌<◌, length, take, drop};
 ghost use Rattle.std.specs.Int.Bits.{bit_xor};
-ghost use Rattle.stream.specs.Stream.{stream, number};
-ghost use Rattle.chars.specs.Shape.{Sound, body_of, rest_of};
+ghost use Rattle.stream.specs.Stream.{number};
+ghost use Rattle.stream.specs.Bits.{all_bits};
+ghost use Rattle.chars.specs.Shape.{body_of, rest_of};
 ghost use Rattle.pairs.specs.Pairs.{pair_of, pair_table, GoOn, with_two};
 
 use chars::{Begun, Shape};
+use stream::Stream;
 
 // The table by value, for a reading to take once: a constant is put together anew wherever it is named, and this is the only place.
 fn table() -> [u16; 1024]
@@ -19,24 +21,18 @@ fn table() -> [u16; 1024]
 }
 
 // What the table says of the two characters at a place, of four data bits each.
-fn pair_at(table: &[u16; 1024], s: &[u8], count: usize, reversed: bool, at: usize) -> u16
-    requires { (table.now ≡ pair_table) × (count ≤ 8 * length s.now) × (at + 32 ≤ count) }
-    ensures { result ≡ pair_of (number (take 10 (drop at (stream reversed s.now count)))) }
+fn pair_at(table: &[u16; 1024], s: &Stream, at: usize) -> u16
+    requires { (table.now ≡ pair_table) × (at + 32 ≤ s.now.count) }
+    ensures { result ≡ pair_of (number (take 10 (drop at (all_bits s.now)))) }
 {
-    table[stream::ten_at(s, count, reversed, at)]
+    table[s.ten_at(at)]
 }
 
 // Whether the looks stop here: one of the two characters is the end sentinel, or has even parity.
 fn stops(pair: u16, last: u8) -> bool
     ensures { result ≡ false → GoOn last pair }
 {
-    if pair % 16 == last as u16 {
-        return true;
-    }
-    if pair / 16 == last as u16 {
-        return true;
-    }
-    255 < pair
+    pair % 16 == last as u16 || pair / 16 == last as u16 || 255 < pair
 }
 
 // Both characters of a look, into `out` from `len` on; the exclusive or with their numbers.
@@ -59,46 +55,33 @@ fn looks(left: usize, more: usize) -> usize
     if left < 32 {
         return 0;
     }
-    let r = (left - 32) / 10 + 1;
-    if more / 2 < r {
-        return more / 2;
-    }
-    r
+    ((left - 32) / 10 + 1).min(more / 2)
 }
 
 // The characters from `from` on, two at a look, into `out`, up to where the looks stop or 32 bits aren't left; none where the shape isn't read so.
-pub fn by_pairs(
-    s: &[u8],
-    count: usize,
-    reversed: bool,
-    from: usize,
-    h: Shape,
-    out: &mut [u8],
-) -> Begun
-    requires { (count ≤ 8 * length s.now) × (from ≤ count) × Sound h × (h.limit ≤ length out.old + 1) }
-    ensures { (body_of h (drop from (stream reversed s.now count))
-        ≡ rest_of h result.len result.lrc (take result.len out.new) (drop result.at (stream reversed s.now count)))
-        × (result.at ≤ count) × (result.len + 1 ≤ h.limit) }
+pub fn by_pairs(s: &Stream, from: usize, h: Shape, out: &mut [u8]) -> Begun
+    requires { (from ≤ s.now.count) × (h.limit ≤ length out.old + 1) }
+    ensures { (body_of h (drop from (all_bits s.now))
+        ≡ rest_of h result.len result.lrc (take result.len out.new) (drop result.at (all_bits s.now)))
+        × (result.at ≤ s.now.count) × (result.len + 1 ≤ h.limit) }
 {
-    let last = h.last;
-    let base = h.base;
-    let mut lrc = h.first;
-    let mut at = from;
-    let mut len: usize = 0;
+    let mut b = Begun {
+        at: from,
+        len: 0,
+        lrc: h.first,
+    };
     if !h.pairs {
-        return Begun { at, len, lrc };
+        return b;
     }
     let table = table();
-    let room = h.limit - 1;
-    let most = 2 * looks(count - from, room);
-    while len < most {
-        let pair = pair_at(&table, s, count, reversed, at);
-        if stops(pair, last) {
-            return Begun { at, len, lrc };
+    for _look in 0..looks(s.count - from, h.limit - 1) {
+        let pair = pair_at(&table, s, b.at);
+        if stops(pair, h.last) {
+            return b;
         }
-        lrc = take_two(pair, base, lrc, len, out);
-        at += 10;
-        len += 2;
+        b.lrc = take_two(pair, h.base, b.lrc, b.len, out);
+        b.at += 10;
+        b.len += 2;
     }
-    Begun { at, len, lrc }
+    b
 }

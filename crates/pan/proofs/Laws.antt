@@ -4,14 +4,15 @@ use mathlib.Core.Path.{◌≡◌, sym, ap, ◌∙◌}
 use mathlib.Core.Bool.{true}
 use mathlib.Core.List.{List, ◌++◌}
 use lib.ListN.{length, take, drop}
+use Rattle.std.specs.Prelude.{Result}
 use lib.Seq.{take_at, drop_at}
-use Rattle.reasons.specs.declared.Tested.{Tested}
+use Rattle.reasons.specs.declared.Reason.{Reason}
 use Rattle.reasons.proofs.Laws.{said_one}
 use Rattle.pan.specs.Pan.{pan_length, front_shown, back_shown, front, back, shown, stars, masked, Masks}
 use Rattle.pan.proofs.Masked.{front_length, head_length}
 
 -- any two outcomes that masking allows are equal
-pub mask_one : (pan out : List ℕ) (r q : Tested) (k l : List ℕ) → Masks pan out r k → Masks pan out q l → (r ≡ q) × (k ≡ l)
+pub mask_one : (pan out : List ℕ) (r q : Result (Unit {0}) Reason) (k l : List ℕ) → Masks pan out r k → Masks pan out q l → (r ≡ q) × (k ≡ l)
 mask_one pan out r q k l f g = (said_one r q (f.0 ∙ sym g.0), f.1 ∙ sym g.1)
 
 -- texts that are equal as a whole, and whose fronts are equally long, are equal front and back

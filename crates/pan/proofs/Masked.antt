@@ -1,18 +1,14 @@
--- The masked text byte by byte and as it is written, and the outcomes of masking.
+-- The masked text byte by byte and as it is written.
 use Prim.Native.Nat.{ℕ, ◌+◌, ◌-◌, ◌≤◌, ◌<◌}
 use mathlib.Core.Path.{◌≡◌, refl, sym, ap, ◌∙◌}
-use mathlib.Core.Bool.{true, false}
+use mathlib.Core.Bool.{true}
 use mathlib.Core.List.{List, [], ◌++◌, append_assoc}
 use native.Mathlib.Omega.{arith}
-use borrow.Author.Tests.{le-leb, lt-leb}
 use lib.ListN.{length, take, drop, get_or, replicate, length-append, length-drop, length-replicate, get_or-replicate, replicate-append-replicate, get_or-append}
 use lib.Seq.{take_at, drop_at, take_all, length-take-le, get_or-take, get_or-drop, get_or-append-add}
-use Rattle.text.specs.Bytes.{all_digits}
 use Rattle.text.specs.Numbers.{put}
 use Rattle.text.proofs.Tests.{inside_is}
-use Rattle.reasons.specs.declared.Tested.TheVariants.{Passes, Refused}
-use Rattle.reasons.specs.declared.Reason.TheVariants.{ShortOutput, BadCount, BadByte}
-use Rattle.pan.specs.Pan.{pan_length, front_shown, back_shown, front, back, stars, masked, mask_rule, mask_bytes, Masks}
+use Rattle.pan.specs.Pan.{pan_length, front_shown, back_shown, front, back, stars, masked}
 
 -- what is shown of a PAN is not more than the whole of it
 pub shown-fits : (n : ℕ) → pan_length n ≡ true → front_shown n + back_shown n ≤ n
@@ -107,23 +103,3 @@ module _ (pan : List ℕ) (h : pan_length (length pan) ≡ true) where
   masked_written out x y z f b ef eb ex ey ez =
       let at = length pan - b in
       ez ∙ rw (take_all (length pan - at) (drop at pan) (omega (arith, length-drop at pan)), ey, ex, ef, eb) (shown_over_stars out)
-
--- masking, test by test
-module _ (pan out : List ℕ) where
-  pub bad_count : pan_length (length pan) ≡ false → Masks pan out (Refused BadCount) out
-  unfolding mask_rule mask_bytes
-  bad_count a = (simp a, simp a)
-
-  module _ (a : pan_length (length pan) ≡ true) where
-    pub bad_byte : all_digits pan ≡ false → Masks pan out (Refused BadByte) out
-    unfolding mask_rule mask_bytes
-    bad_byte b = (simp (a, b), simp (a, b))
-
-    module _ (b : all_digits pan ≡ true) where
-      pub short_output : length out < length pan → Masks pan out (Refused ShortOutput) out
-      unfolding mask_rule mask_bytes
-      short_output l = let t = lt-leb _ _ l in (simp (a, b, t), simp (a, b, t))
-
-      pub passes : length pan ≤ length out → Masks pan out Passes (put out 0 (masked pan))
-      unfolding mask_rule mask_bytes
-      passes l = let t = le-leb _ _ l in (simp (a, b, t), simp (a, b, t))

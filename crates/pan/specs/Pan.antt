@@ -1,9 +1,9 @@
 -- Card numbers (document 01, 'Card numbers, masking and ranges').
-use Rattle.std.specs.Prelude.{ℕ, ◌-◌, ◌≡◌, Bool, List, ◌++◌, leb, length, take, drop, replicate}
+use Rattle.std.specs.Prelude.{ℕ, ◌-◌, ◌≡◌, Bool, Result, List, ◌++◌, leb, length, take, drop, replicate}
 use Rattle.text.specs.Bytes.{within, all_digits}
 use Rattle.text.specs.Numbers.{put}
 use Rattle.reasons.specs.Reasons.{Outcome, gives, demand, after, said}
-use Rattle.reasons.specs.declared.Tested.{Tested}
+use Rattle.reasons.specs.declared.Reason.{Reason}
 
 -- a card number (PAN) has 13 to 19 digits (house): whether n is such a count
 abbrev pub pan_length : ℕ → Bool
@@ -47,5 +47,5 @@ unfoldable pub mask_bytes : List ℕ → List ℕ → List ℕ
 mask_bytes pan out = after (mask_rule pan (length out)) out (λ _. put out 0 (masked pan))
 
 -- what masking allows as answer r and as output k, lent the output `out`
-abbrev pub Masks : List ℕ → List ℕ → Tested → List ℕ → Type 0
+abbrev pub Masks : List ℕ → List ℕ → Result (Unit {0}) Reason → List ℕ → Type 0
 Masks pan out r k = (said r ≡ mask_rule pan (length out)) × (k ≡ mask_bytes pan out)

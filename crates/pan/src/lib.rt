@@ -5,9 +5,10 @@ ghost use Rattle.std.specs.Prelude.{◌≡◌, true, ◌++◌, ◌≤◌, length
 ghost use Rattle.text.specs.Numbers.{put};
 ghost use Rattle.pan.specs.Pan.{pan_length, front_shown, back_shown, masked, Masks};
 
-use reasons::{Reason, Tested};
+use reasons::Reason;
 
 // How many first digits of a PAN of n digits are shown.
+#[tactic(auto, unfolding(crate::specs::Pan::front_shown))]
 fn front_shown(n: usize) -> usize
     ensures { result ≡ front_shown n }
 {
@@ -15,6 +16,7 @@ fn front_shown(n: usize) -> usize
 }
 
 // And how many last ones.
+#[tactic(auto, unfolding(crate::specs::Pan::back_shown))]
 fn back_shown(n: usize) -> usize
     ensures { result ≡ back_shown n }
 {
@@ -26,11 +28,7 @@ fn write_stars(out: &mut [u8], n: usize)
     requires { n ≤ length out.old }
     ensures { out.new ≡ replicate n 42 ++ drop n out.old }
 {
-    let mut i = 0;
-    while i < n {
-        out[i] = b'*';
-        i += 1;
-    }
+    out[..n].fill(b'*');
 }
 
 // Writes the masked text over the front of the output: stars, and the digits shown over them. No hidden digit is ever written.
@@ -47,22 +45,23 @@ fn write_masked(pan: &[u8], out: &mut [u8])
 }
 
 // Masks a PAN into the front of the output.
-pub fn mask(pan: &[u8], out: &mut [u8]) -> Tested
+#[tactic(auto, unfolding(crate::specs::Pan::mask_rule, crate::specs::Pan::mask_bytes))]
+pub fn mask(pan: &[u8], out: &mut [u8]) -> Result<(), Reason>
     ensures { Masks pan.now out.old result out.new }
 {
     let n = pan.len();
     if n < 13 {
-        return Tested::Refused(Reason::BadCount);
+        return Err(Reason::BadCount);
     }
     if 19 < n {
-        return Tested::Refused(Reason::BadCount);
+        return Err(Reason::BadCount);
     }
     if !text::all_digits(pan) {
-        return Tested::Refused(Reason::BadByte);
+        return Err(Reason::BadByte);
     }
     if out.len() < n {
-        return Tested::Refused(Reason::ShortOutput);
+        return Err(Reason::ShortOutput);
     }
     write_masked(pan, out);
-    Tested::Passes
+    Ok(())
 }

@@ -48,7 +48,7 @@ fn show(out: &mut Output, journal: &[u8], serial: u32) {
 
 // The serial of a walk's step, and the one after it.
 fn step(out: &mut Output, journal: &[u8], serial: u32) -> u32 {
-    if walker::held_at(journal, serial).len() == 0 {
+    if walker::held_at(journal, serial).is_empty() {
         return 0;
     }
     say::value(out, b" ", serial as u64);
@@ -74,10 +74,10 @@ fn walk(out: &mut Output, journal: &[u8]) {
 
 // Three payments, of which the first is released.
 fn fill(journal: &mut [u8]) {
-    journal::book(journal, b"4111111111111111", 7, 250, 0);
-    journal::book(journal, b"378282246310005", 7, 300, 0);
-    journal::book(journal, b"4111111111111111", 7, 100, 0);
-    journal::release(journal, 1);
+    let _ = journal::book(journal, b"4111111111111111", 7, 250, 0);
+    let _ = journal::book(journal, b"378282246310005", 7, 300, 0);
+    let _ = journal::book(journal, b"4111111111111111", 7, 100, 0);
+    let _ = journal::release(journal, 1);
 }
 
 fn second_and_walk(out: &mut Output, journal: &[u8]) {

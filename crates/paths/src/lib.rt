@@ -9,40 +9,35 @@ use std::rt::Files;
 use std::{fs, io};
 
 fn text_of(path: &[u8]) -> io::Result<&str> {
-    match str::from_utf8(path) {
-        Ok(text) => Ok(text),
-        Err(_) => Err(Error::from(ErrorKind::InvalidFilename)),
-    }
+    str::from_utf8(path).map_err(|_| Error::from(ErrorKind::InvalidFilename))
 }
 
 pub fn opened_to_read<R: Files<File = File>>(rt: &R, path: &[u8]) -> io::Result<File> {
-    let text = text_of(path)?;
-    File::open(rt, text)
+    File::open(rt, text_of(path)?)
 }
 
 pub fn opened_to_change<R: Files<File = File>>(rt: &R, path: &[u8]) -> io::Result<File> {
-    let text = text_of(path)?;
-    OpenOptions::new().read(true).write(true).open(rt, text)
+    OpenOptions::new()
+        .read(true)
+        .write(true)
+        .open(rt, text_of(path)?)
 }
 
 // What is written goes to the file's end.
 pub fn opened_at_end<R: Files<File = File>>(rt: &R, path: &[u8]) -> io::Result<File> {
-    let text = text_of(path)?;
-    OpenOptions::new().append(true).open(rt, text)
+    OpenOptions::new().append(true).open(rt, text_of(path)?)
 }
 
 // A new file, where nothing is.
 pub fn created<R: Files<File = File>>(rt: &R, path: &[u8]) -> io::Result<File> {
-    let text = text_of(path)?;
     OpenOptions::new()
         .write(true)
         .create_new(true)
-        .open(rt, text)
+        .open(rt, text_of(path)?)
 }
 
 pub fn removed<R: Files<File = File>>(rt: &R, path: &[u8]) -> io::Result<()> {
-    let text = text_of(path)?;
-    fs::remove_file(rt, text)
+    fs::remove_file(rt, text_of(path)?)
 }
 
 // Reads until the buffer is full or the file ends: how many bytes stand at its front.

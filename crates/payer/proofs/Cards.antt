@@ -8,23 +8,26 @@ use native.Mathlib.Nat.{add-sub_cancel_left}
 use borrow.Author.Tests.{le-leb}
 use lib.ListN.{length, take, drop}
 use lib.Seq.{take-take, length-take-le, drop-append-add, drop-drop}
+use Rattle.std.proofs.Common.{Option, Result, Ok, Err}
 use Rattle.text.specs.Bytes.{all_digits}
 use Rattle.text.specs.Numbers.{put}
 use Rattle.text.proofs.Tests.{inside, inside_is}
 use Rattle.text.proofs.Put.{put_front, length_put}
 use Rattle.reasons.specs.Reasons.{Outcome, gives, refuses, demand}
+use Rattle.reasons.specs.declared.Reason.{Reason}
 use Rattle.reasons.proofs.Laws.{passed, went_on, gives_refuses}
 use Rattle.luhn.specs.Luhn.{passes, luhn_rule}
 use Rattle.pan.specs.Pan.{pan_length}
 use Rattle.ranges.specs.Ranges.{label_rule}
 use Rattle.hotlist.specs.Hotlist.{listed}
 use Rattle.chars.specs.Reading.{Format}
-use Rattle.bits.specs.Reading.{Track as Read, read_rule, read_bytes, counted}
+use Rattle.bits.specs.Reading.{Track as Read, read_rule, read_bytes, said, counted}
+use Rattle.bits.specs.declared.Read.{Read as Way}
+use Rattle.bits.specs.declared.Read.TheVariants.{Forward, Reversed}
 use Rattle.bits.proofs.Laws.{chars_fit}
 use Rattle.bits.proofs.Counts as counts
 use Rattle.layout.specs.Layout.{layout_rule}
-use Rattle.layout.specs.Grammar.{Optional, field_in}
-use Rattle.layout.specs.declared.Field.{Field}
+use Rattle.layout.specs.Grammar.{field_in}
 use Rattle.layout.specs.declared.Track.{Track}
 use Rattle.layout.specs.declared.Track.TheVariants.{Two, One}
 use Rattle.layout.proofs.Laws as layout
@@ -32,15 +35,10 @@ use Rattle.layout1.specs.Layout1.{layout1_rule}
 use Rattle.layout1.proofs.Laws as layout1
 use Rattle.dates.specs.Dates.{left_rule}
 use Rattle.dates.specs.declared.Date.{Date}
-use Rattle.dates.specs.declared.Left.{Left}
-use Rattle.payer.specs.Payer.{format, Standing, standing, division_rule, room, Terms, Given, Payer, payer_rule, part_of, chars_rule, card_rule}
+use Rattle.payer.specs.Payer.{format, count_of, spot, division_rule, room, Terms, Given, Payer, payer_rule, part_of, chars_rule, card_rule}
 use Rattle.payer.specs.Payer.{said_card, pan_end, Divided}
-use Rattle.payer.specs.declared.Card.{Card}
-use Rattle.payer.specs.declared.Card.TheVariants.{Pays, Refused}
-
-pub room_small : (k : Track) → room k ≤ 76
-room_small Two = omega arith
-room_small One = omega arith
+use Rattle.payer.specs.declared.Spot.{Spot}
+use Rattle.payer.specs.declared.Paying.{Paying}
 
 -- a part that ends within the front of a text
 part_front : (a n m : ℕ) (s : List ℕ) → a + n ≤ m → part_of (take m s) a n ≡ part_of s a n
@@ -54,9 +52,9 @@ pub part_is : (s : List ℕ) (a n : ℕ) → take (a + n - a) (drop a s) ≡ par
 part_is s a n = rw add-sub_cancel_left
 
 -- a card's PAN stands in the front of the scratch, so what follows it does not matter
-pub card_front : (r : Card) (m : ℕ) (s : List ℕ) → pan_end r ≤ m → said_card r (take m s) ≡ said_card r s
-card_front (Pays a n l d) m s h = ap (λ (p : List ℕ). gives (record { pan = p; label = l; left = d })) (part_front a n m s h)
-card_front (Refused r) m s h = refl
+pub card_front : (r : Result Paying Reason) (m : ℕ) (s : List ℕ) → pan_end r ≤ m → said_card r (take m s) ≡ said_card r s
+card_front (Ok c) m s h = ap (λ (p : List ℕ). gives (record { pan = p; label = c.label; left = c.left })) (part_front c.at c.digits m s h)
+card_front (Err r) m s h = refl
 
 -- ---- of a PAN and its expiry
 
@@ -65,7 +63,7 @@ stopped_alike : (b : Bool) (m n : ℕ) (o : Outcome Payer) → ◌≡◌ {A = Ou
 stopped_alike true m n o e = gives_refuses tt n e
 stopped_alike false m n o e = cc
 
-module _ (t : Terms) (a : Date) (pan : List ℕ) (expiry : Optional) (l : pan_length (length pan) ≡ true) (d : all_digits pan ≡ true) where
+module _ (t : Terms) (a : Date) (pan : List ℕ) (expiry : Option (List ℕ)) (l : pan_length (length pan) ≡ true) (d : all_digits pan ≡ true) where
   -- of a card number Luhn asks only whether it passes
   luhn_of_pan : luhn_rule pan ≡ demand (passes pan) 4 (gives tt)
   unfolding luhn_rule
@@ -87,7 +85,7 @@ module _ (t : Terms) (a : Date) (pan : List ℕ) (expiry : Optional) (l : pan_le
     unfolding payer_rule
     expired n g = simp (luhn_passed e, f, g)
 
-    module _ (y : Left) (g : left_rule a expiry ≡ gives y) where
+    module _ (y : Option ℕ) (g : left_rule a expiry ≡ gives y) where
       pub is_listed : listed t.hot t.digits pan ≡ true → payer_rule t a pan expiry ≡ refuses 22
       unfolding payer_rule
       is_listed h = simp (luhn_passed e, f, g, h)
@@ -97,7 +95,7 @@ module _ (t : Terms) (a : Date) (pan : List ℕ) (expiry : Optional) (l : pan_le
       pays h = simp (luhn_passed e, f, g, h)
 
 -- a PAN that pays passes, is the PAN that was asked about, and has left what its expiry says on the date
-pan_pays : (t : Terms) (a : Date) (pan : List ℕ) (x : Optional) (p : Payer) → payer_rule t a pan x ≡ gives p
+pan_pays : (t : Terms) (a : Date) (pan : List ℕ) (x : Option (List ℕ)) (p : Payer) → payer_rule t a pan x ≡ gives p
     → (passes pan ≡ true) × (p.pan ≡ pan) × (left_rule a x ≡ gives p.left)
 unfolding payer_rule
 pan_pays t a pan x p e =
@@ -116,39 +114,34 @@ pub record Passing (pan : List ℕ) : Type 0 where
 
 -- ---- of the characters
 
--- where a standing puts PAN and expiry there are such
-pub divided : (k : Track) (chars : List ℕ) (c : Standing) → division_rule k chars ≡ gives c → Divided chars c.start c.size c.expiry
+-- where a division puts PAN and expiry there are such
+pub divided : (k : Track) (chars : List ℕ) (c : Spot) → division_rule k chars ≡ gives c → Divided chars c
 divided Two chars c e =
     let a = went_on (layout_rule chars) _ c e in
     let f = (layout.accepted_form chars a.0 a.1).formed in
-    let z : standing 0 a.0.pan a.0.expiry ≡ c = cc a.2 in
+    let z : spot 0 a.0.pan a.0.expiry ≡ c = cc a.2 in
     let fits = layout.pan_fits chars a.0 a.1 in
-    subst (λ (x : Standing). Divided chars x.start x.size x.expiry) z
+    subst (Divided chars) z
     (record { fits = omega (arith, fits); count = f.pan_length_lem; digits = f.pan_digits; expiry_right = f.expiry_right })
 divided One chars c e =
     let a = went_on (layout1_rule chars) _ c e in
     let f = (layout1.accepted_form chars a.0 a.1).formed in
-    let z : standing 1 a.0.pan a.0.expiry ≡ c = cc a.2 in
+    let z : spot 1 a.0.pan a.0.expiry ≡ c = cc a.2 in
     let fits = layout1.pan_fits chars a.0 a.1 in
-    subst (λ (x : Standing). Divided chars x.start x.size x.expiry) z
+    subst (Divided chars) z
     (record { fits = fits; count = f.pan_length_lem; digits = f.pan_digits; expiry_right = f.expiry_right })
 
 module _ (k : Track) (t : Terms) (a : Date) (chars : List ℕ) where
-  pub bad_layout : (n : ℕ) → division_rule k chars ≡ refuses n → chars_rule k t a chars ≡ refuses n
+  pub well_divided : (c : Spot) → division_rule k chars ≡ gives c → chars_rule k t a chars ≡ payer_rule t a (part_of chars c.at c.digits) (field_in 4 chars c.expiry)
   unfolding chars_rule
-  bad_layout n e = rw e
-
-  pub well_divided : (s n : ℕ) (x : Field) → division_rule k chars ≡ gives (standing s n x)
-      → chars_rule k t a chars ≡ payer_rule t a (part_of chars s n) (field_in 4 chars x)
-  unfolding chars_rule
-  well_divided s n x e = rw e
+  well_divided c e = rw e
 
   chars_pay : (p : Payer) → chars_rule k t a chars ≡ gives p → Passing p.pan
   unfolding chars_rule
   chars_pay p e =
       let c = went_on (division_rule k chars) _ p e in
       let l = divided k chars c.0 c.1 in
-      let b = pan_pays t a (part_of chars c.0.start c.0.size) (field_in 4 chars c.0.expiry) p c.2 in
+      let b = pan_pays t a (part_of chars c.0.at c.0.digits) (field_in 4 chars c.0.expiry) p c.2 in
       subst Passing (sym b.1) (record { count = l.count; digits = l.digits; sum = b.0 })
 
 -- ---- of the stripe
@@ -176,7 +169,7 @@ pub record ReadSo (g : Given) (out new : List ℕ) (n : ℕ) : Type 0 where
   pub goes : chars_rule g.track g.terms g.date (take n new) ≡ card_rule g
   pub rest : drop (room g.track) new ≡ drop (room g.track) out
 
-pub read_card : (g : Given) (out new : List ℕ) (n : ℕ) (r : Card) → ReadSo g out new n
+pub read_card : (g : Given) (out new : List ℕ) (n : ℕ) (r : Result Paying Reason) → ReadSo g out new n
     → said_card r (take n new) ≡ chars_rule g.track g.terms g.date (take n new) → pan_end r ≤ length (take n new)
     → (said_card r new ≡ card_rule g) × (pan_end r ≤ length new) × (drop (room g.track) new ≡ drop (room g.track) out)
 read_card g out new n r s e h =
@@ -207,10 +200,14 @@ module _ (g : Given) (out new : List ℕ) (long : room g.track ≤ length out) (
         rest = ap (drop (room g.track)) now ∙ rest_stays out t.chars (room g.track) few;
       }
 
-  pub read_so : (w : Bool) (n : ℕ) → gives (w, n) ≡ counted (read_rule (format g.track) g.stream g.bits (length out)) → ReadSo g out new n
+  read_so : (w : Bool) (n : ℕ) → gives (w, n) ≡ counted (read_rule (format g.track) g.stream g.bits (length out)) → ReadSo g out new n
   read_so w n e =
       let b = counts.behind (read_rule (format g.track) g.stream g.bits (length out)) w n e in
       track_so b.track n (sym b.is) b.count
+
+  pub read_way : (r : Way) → said (Ok r) ≡ counted (read_rule (format g.track) g.stream g.bits (length out)) → ReadSo g out new (count_of r)
+  read_way (Forward n) e = read_so false n e
+  read_way (Reversed n) e = read_so true n e
 
 -- the number of a card that pays passes
 pub card_pays : (g : Given) (p : Payer) → card_rule g ≡ gives p → Passing p.pan
@@ -220,10 +217,10 @@ card_pays g p e =
     chars_pay g.track g.terms g.date a.0.chars p a.2
 
 -- what is left to it: what the expiry that the stripe has, in the characters read from it and where their division puts it, says on the date
-pub record LeftOf (g : Given) (d : Left) : Type 0 where
+pub record LeftOf (g : Given) (d : Option ℕ) : Type 0 where
   pub read : Read
   pub was_read : read_rule (format g.track) g.stream g.bits (room g.track) ≡ gives read
-  pub stands : Standing
+  pub stands : Spot
   pub was_divided : division_rule g.track read.chars ≡ gives stands
   pub says : left_rule g.date (field_in 4 read.chars stands.expiry) ≡ gives d
 

@@ -3,18 +3,26 @@
 #![tactic(auto)]
 
 ghost use Rattle.std.specs.Prelude.{◌≡◌, true, ◌≤◌, length, drop};
-ghost use Rattle.bits.specs.Reading.{read_rule, read_bytes, said, counted};
+ghost use Rattle.reasons.specs.Reasons.{said};
+ghost use Rattle.bits.specs.Reading.{Reads};
 ghost use Rattle.layout.specs.Grammar.{field_in};
 ghost use Rattle.dates.specs.Dates.{real};
-ghost use Rattle.payer.specs.Payer.{format, division_rule, room, terms, Sound, given, payer_rule, part_of, chars_rule, card_rule};
-ghost use Rattle.payer.specs.Payer.{said_spot, said_card, pan_end, Divided};
+ghost use Rattle.payer.specs.Payer.{format, count_of, division_rule, room, terms_of, Sound, given, payer_rule, part_of, chars_rule, card_rule};
+ghost use Rattle.payer.specs.Payer.{said_card, pan_end, Divided};
 
 use bits::Read;
-use dates::inner::Validity;
-use dates::{Date, Left};
-use layout::{Field, Track};
-use ranges::inner::Labelled;
-use reasons::{Reason, Tested};
+use dates::Date;
+use layout::Track;
+use reasons::Reason;
+
+// On what terms a card pays: both tables, and the hot list beside the length of its PANs.
+#[derive(Clone, Copy)]
+pub struct Terms<'a> {
+    pub site: &'a [u8],
+    pub acquirer: &'a [u8],
+    pub hot: &'a [u64],
+    pub digits: u32,
+}
 
 // ---- the tracks that a swipe reads, and what differs between them
 
@@ -29,9 +37,8 @@ pub fn room_of(track: Track) -> usize
 }
 
 // The reading.
-fn read(track: Track, stream: &[u8], bits: u64, out: &mut [u8]) -> Read
-    ensures { (said result ≡ counted (read_rule (format track) stream.now bits (length out.old)))
-        × (out.new ≡ read_bytes (format track) stream.now bits out.old) }
+fn read(track: Track, stream: &[u8], bits: u64, out: &mut [u8]) -> Result<Read, Reason>
+    ensures { Reads (format track) stream.now bits out.old result out.new }
 {
     match track {
         Track::Two => track2::read(stream, bits, out),
@@ -39,104 +46,89 @@ fn read(track: Track, stream: &[u8], bits: u64, out: &mut [u8]) -> Read
     }
 }
 
-// Where the PAN stands in the characters, its length, and the expiry.
-#[derive(Clone, Copy)]
-pub enum Spot {
-    Stands(usize, usize, Field),
-    Refused(Reason),
+// How many characters were read, whichever way.
+fn count_of(way: Read) -> usize
+    ensures { result ≡ count_of way }
+{
+    match way {
+        Read::Forward(n) | Read::Reversed(n) => n,
+    }
+}
+
+// Where the PAN stands in the characters, how many digits it has, and where the expiry stands, if there is one.
+#[derive(Clone, Copy, Debug, PartialEq, Eq)]
+pub struct Spot {
+    pub at: usize,
+    pub digits: usize,
+    pub expiry: Option<usize>,
 }
 
 // The layout of the characters between the sentinels.
-fn spot_of(track: Track, chars: &[u8]) -> Spot
-    ensures { said_spot result ≡ division_rule track chars.now }
+fn spot_of(track: Track, chars: &[u8]) -> Result<Spot, Reason>
+    ensures { said result ≡ division_rule track chars.now }
 {
     match track {
-        Track::Two => match layout::divide(chars) {
-            layout::Division::Refused(r) => Spot::Refused(r),
-            layout::Division::Fields {
-                pan: n,
-                expiry: e,
-                service: _,
-                rest: _,
-            } => Spot::Stands(0, n, e),
-        },
-        Track::One => match layout1::divide(chars) {
-            layout1::Division::Refused(r) => Spot::Refused(r),
-            layout1::Division::Fields {
-                pan: n,
-                name: _,
-                expiry: e,
-                service: _,
-                rest: _,
-            } => Spot::Stands(1, n, e),
-        },
+        Track::Two => {
+            let d = layout::divide(chars)?;
+            Ok(Spot {
+                at: 0,
+                digits: d.pan,
+                expiry: d.expiry,
+            })
+        }
+        Track::One => {
+            let d = layout1::divide(chars)?;
+            Ok(Spot {
+                at: 1,
+                digits: d.pan,
+                expiry: d.expiry,
+            })
+        }
     }
 }
 
 // ---- the card
 
-// A card that pays: where its PAN stands in the scratch, the PAN's length, the label of its range, and the days that it has left.
-#[derive(Clone, Copy)]
-pub enum Card {
-    Pays(usize, usize, u16, Left),
-    Refused(Reason),
+// A card that pays: where its PAN stands in the scratch and how many digits it has, the label of its range, and the days that it has left, or no
+// number where it has no expiry.
+#[derive(Clone, Copy, Debug, PartialEq, Eq)]
+pub struct Paying {
+    pub at: usize,
+    pub digits: usize,
+    pub label: u16,
+    pub left: Option<u32>,
 }
 
-// Luhn and the look-up of the n digits from `at`, the expiry, then the hot list.
-fn card_at(
-    chars: &[u8],
-    at: usize,
-    n: usize,
-    expiry: Field,
-    site: &[u8],
-    acquirer: &[u8],
-    hot: &[u64],
-    digits: u32,
-    date: Date,
-) -> Card
-    requires { Sound (terms site.now acquirer.now hot.now digits) × (real date ≡ true) × Divided chars.now at n expiry }
-    ensures { (said_card result chars.now ≡ payer_rule (terms site.now acquirer.now hot.now digits) date
-        (part_of chars.now at n) (field_in 4 chars.now expiry)) × (pan_end result ≤ length chars.now) }
+// Luhn and the look-up of the PAN, the expiry, then the hot list.
+fn card_at(chars: &[u8], spot: Spot, terms: Terms, date: Date) -> Result<Paying, Reason>
+    requires { Sound (terms_of terms) × (real date ≡ true) × Divided chars.now spot }
+    ensures { (said_card result chars.now ≡ payer_rule (terms_of terms.entry) date
+        (part_of chars.now spot.at spot.digits) (field_in 4 chars.now spot.expiry)) × (pan_end result ≤ length chars.now) }
 {
-    let end = at + n;
-    let pan = &chars[at..end];
-    match luhn::test(pan) {
-        Tested::Refused(r) => Card::Refused(r),
-        Tested::Passes => match ranges::inner::label_tested(site, acquirer, pan) {
-            Labelled::Refused(r) => Card::Refused(r),
-            Labelled::Label(l) => match dates::inner::left_on(date, chars, expiry) {
-                Validity::Refused(r) => Card::Refused(r),
-                Validity::Good(left) => {
-                    if hotlist::inner::is_listed(hot, digits, pan) {
-                        return Card::Refused(Reason::ListedCard);
-                    }
-                    Card::Pays(at, n, l, left)
-                }
-            },
-        },
+    let end = spot.at + spot.digits;
+    let pan = &chars[spot.at..end];
+    luhn::test(pan)?;
+    let label = ranges::inner::label_tested(terms.site, terms.acquirer, pan)?;
+    let left = dates::inner::left_on(date, chars, spot.expiry)?;
+    if hotlist::inner::is_listed(terms.hot, terms.digits, pan) {
+        return Err(Reason::ListedCard);
     }
+    Ok(Paying {
+        at: spot.at,
+        digits: spot.digits,
+        label,
+        left,
+    })
 }
 
 // The layout of the characters, then their PAN and expiry.
-fn card_of_chars(
-    track: Track,
-    chars: &[u8],
-    site: &[u8],
-    acquirer: &[u8],
-    hot: &[u64],
-    digits: u32,
-    date: Date,
-) -> Card
-    requires { Sound (terms site.now acquirer.now hot.now digits) × (real date ≡ true) }
-    ensures { (said_card result chars.now ≡ chars_rule track (terms site.now acquirer.now hot.now digits) date
-        chars.now) × (pan_end result ≤ length chars.now) }
+fn card_of_chars(track: Track, chars: &[u8], terms: Terms, date: Date) -> Result<Paying, Reason>
+    requires { Sound (terms_of terms) × (real date ≡ true) }
+    ensures { (said_card result chars.now ≡ chars_rule track (terms_of terms.entry) date chars.now)
+        × (pan_end result ≤ length chars.now) }
 {
-    match spot_of(track, chars) {
-        Spot::Refused(r) => Card::Refused(r),
-        Spot::Stands(at, n, expiry) => {
-            card_at(chars, at, n, expiry, site, acquirer, hot, digits, date)
-        }
-    }
+    let spot = spot_of(track, chars)?;
+    card_at(chars, spot, terms, date)
 }
 
 // The reading, into the front of the scratch, then its characters.
@@ -144,25 +136,15 @@ pub fn card_of_stripe(
     track: Track,
     stream: &[u8],
     bits: u64,
-    site: &[u8],
-    acquirer: &[u8],
-    hot: &[u64],
-    digits: u32,
+    terms: Terms,
     date: Date,
     scratch: &mut [u8],
-) -> Card
-    requires { (room track ≤ length scratch.old) × Sound (terms site.now acquirer.now hot.now digits) × (real date ≡ true) }
-    ensures { (said_card result scratch.new ≡ card_rule (given track stream.now bits
-        (terms site.now acquirer.now hot.now digits) date))
+) -> Result<Paying, Reason>
+    requires { (room track ≤ length scratch.old) × Sound (terms_of terms) × (real date ≡ true) }
+    ensures { (said_card result scratch.new ≡ card_rule (given track stream.now bits (terms_of terms.entry) date))
         × (pan_end result ≤ length scratch.new) × (drop (room track) scratch.new ≡ drop (room track) scratch.old) }
 {
-    match read(track, stream, bits, scratch) {
-        Read::Refused(r) => Card::Refused(r),
-        Read::Forward(n) => {
-            card_of_chars(track, &scratch[..n], site, acquirer, hot, digits, date)
-        }
-        Read::Reversed(n) => {
-            card_of_chars(track, &scratch[..n], site, acquirer, hot, digits, date)
-        }
-    }
+    let way = read(track, stream, bits, scratch)?;
+    let n = count_of(way);
+    card_of_chars(track, &scratch[..n], terms, date)
 }

@@ -1,12 +1,15 @@
 -- What each record's call comes to, and how long a script may be.
+use Rattle.std.proofs.Common.{Option, Some, None}
 use Prim.Native.Nat.{ℕ, zero, suc, min, ◌≤◌, ◌<◌, ◌+◌, ◌-◌, ◌*◌, ◌/◌, ◌%◌}
 use mathlib.Core.Path.{◌≡◌, refl, sym, ap, ◌∙◌, subst, subst⁻¹}
 use mathlib.Core.Bool.{Bool, true, false, cond}
 use mathlib.Core.List.{List, [], ◌∷◌, ◌++◌, append-nil}
+use Rattle.std.proofs.Common.{Ok, Err, Option, Some, None}
 use native.Mathlib.Omega.{arith}
 use lib.ListN.{get_or, length, take, drop}
 use lib.Seq.{get_or-take, get_or-drop}
-use borrow.Author.Tests.{eq-eqb, ne_eqb, le-leb, lt-leb}
+use borrow.Author.Tests.{eq-eqb, ne_eqb, le-leb, lt-leb, leb-true}
+use lib.Dec.{eqb, leb}
 use Rattle.text.specs.Bytes.{within}
 use Rattle.text.specs.Numbers.{u32_at}
 use Rattle.text.proofs.Tests.{inside_is}
@@ -15,29 +18,22 @@ use Rattle.reasons.specs.declared.Reason.{Reason}
 use Rattle.reasons.proofs.Laws.{passed}
 use Rattle.slots.specs.Journal.{NewestIs, slots_of, state_of, place}
 use Rattle.slots.specs.Record.{is_held}
-use Rattle.slots.specs.declared.Newest.{Newest}
-use Rattle.slots.specs.declared.Newest.TheVariants.{Malformed, Is}
 use Rattle.held.specs.Held.{record_at, held_after, held_up_to, sum_of, amount_of}
-use Rattle.journal.specs.Rules.{Books, Releases, Tally, release_rule}
-use Rattle.journal.specs.declared.Booked.{Booked}
-use Rattle.journal.specs.declared.Booked.TheVariants as booking
+use Rattle.journal.specs.Rules.{Books, Releases, release_rule}
 use Rattle.journal.specs.declared.Released.{Released}
-use Rattle.journal.specs.declared.Released.TheVariants as releasing
 use Rattle.held.proofs.Lists.{held_at_most}
 use Rattle.layout.specs.declared.Track.{Track}
 use Rattle.layout.specs.declared.Track.TheVariants.{Two, One}
 use Rattle.payer.specs.Payer.{Terms, Given, Payer}
-use Rattle.dates.specs.declared.Left.{Left}
 use Rattle.swipe.specs.Swipe.{Swipes}
-use Rattle.swipe.specs.declared.Swiped.{Swiped}
-use Rattle.swipe.specs.declared.Swiped.TheVariants as swiping
+use Rattle.swipe.specs.declared.Receipt.{Receipt}
 use Rattle.swipe.proofs.Laws.{ComesTo, refusal, one_booking, swipe_comes_to}
 use Rattle.history.specs.History.{Call, book, swipe, release, aside, AnswerTo, Does, Done, Payment, takings}
 use Rattle.history.specs.History.{Effect, booked_one, released_to, nothing, of_swipe, effect, effect_of, booked_in, count_in, sum_in, booked, freed_count, freed_sum}
 use Rattle.plays.specs.declared.Totals.{Totals}
-use Rattle.plays.specs.Script.{kind_at, pan_at, label_at, amount_at, serial_at, stream_at, swipe_at, call_at, script_rule, scratch_left}
+use Rattle.plays.specs.Script.{kind_at, pan_at, label_at, amount_at, serial_at, swipe_at, call_at, script_rule, scratch_left}
 use Rattle.plays.specs.Script.{refused_in, skipped_in, refused_count, skipped_count, TotalsOf}
-use Rattle.plays.specs.Script.{Nothing, PlaysOne}
+use Rattle.plays.specs.Script.{Nothing, Paid, Freed, PlaysOne}
 
 -- ---- the totals of one call
 
@@ -79,9 +75,6 @@ nothing_came c clock a t j r u k e small w s n =
     }
 
 -- a call that books
-abbrev pub Paid : ℕ → Totals → Type 0
-Paid amount r = (r.booked ≡ 1) × (r.takings ≡ amount) × (r.released ≡ 0) × (r.remitted ≡ 0) × (r.refused ≡ 0) × (r.skipped ≡ 0)
-
 payment_came : (c : Call) (clock : ℕ) (a : AnswerTo c) (p : Payment) (t j : List ℕ) (r : Totals) (u k : List ℕ)
     → effect clock c a ≡ booked_one p → p.amount < 4294967296
     → refused_in c (booked_one p) ≡ 0 → skipped_in c ≡ 0 → Does j clock c a k → u ≡ scratch_left c a t → Paid p.amount r → PlaysOne c clock t j r u k
@@ -98,16 +91,14 @@ payment_came c clock a p t j r u k e small x y w s n =
 
 -- ---- book
 
-module _ (pan : List ℕ) (label amount clock : ℕ) (small : amount < 4294967296) (t j k : List ℕ) (q : Booked) (w : Books j pan label amount clock q k) where
-  pub book_refused_came : (x : Reason) (r : Totals) → q ≡ booking.Refused x → Nothing 1 0 r → PlaysOne (book pan label amount) clock t j r t k
-  book_refused_came x r e n =
-      nothing_came (book pan label amount) clock (booking.Refused x) t j r t k refl (omega arith)
-      (small, subst (λ (a : Booked). Books j pan label amount clock a k) e w) refl n
+module _ (pan : List ℕ) (label amount clock : ℕ) (small : amount < 4294967296) (t j k : List ℕ) (r : Totals) where
+  pub book_refused_came : (x : Reason) → Books j pan label amount clock (Err x) k → Nothing 1 0 r → PlaysOne (book pan label amount) clock t j r t k
+  book_refused_came x w n = nothing_came (book pan label amount) clock (Err x) t j r t k refl (omega arith) (small, w) refl n
 
-  pub booked_came : (s : ℕ) (r : Totals) → q ≡ booking.Serial s → Paid amount r → PlaysOne (book pan label amount) clock t j r t k
-  booked_came s r e n =
-      payment_came (book pan label amount) clock (booking.Serial s) (record { serial = s; clock = clock; amount = amount; label = label; pan = pan }) t j r t k
-      refl small refl refl (small, subst (λ (a : Booked). Books j pan label amount clock a k) e w) refl n
+  pub booked_came : (s : ℕ) → Books j pan label amount clock (Ok s) k → Paid amount r → PlaysOne (book pan label amount) clock t j r t k
+  booked_came s w n =
+      payment_came (book pan label amount) clock (Ok s) (record { serial = s; clock = clock; amount = amount; label = label; pan = pan }) t j r t k
+      refl small refl refl (small, w) refl n
 
 pub same_book : {pan pan' : List ℕ} {label label' amount amount' clock clock' : ℕ} (t j : List ℕ) (r : Totals) (k : List ℕ)
     → pan ≡ pan' → label ≡ label' → amount ≡ amount' → clock ≡ clock'
@@ -120,22 +111,20 @@ same_book {pan} {pan'} {label} {label'} {amount} {amount'} {clock} {clock'} t j 
 
 -- ---- swipe
 
-module _ (g : Given) (amount clock : ℕ) (small : amount < 4294967296) (t j u k : List ℕ) (q : Swiped) (w : Swipes g amount clock t j q u k) where
-  pub swipe_refused_came : (x : Reason) (r : Totals) → q ≡ swiping.Refused x → Nothing 1 0 r → PlaysOne (swipe g amount t) clock t j r u k
-  swipe_refused_came x r e n =
-      nothing_came (swipe g amount t) clock (record { says = swiping.Refused x; scratch = u }) t j r u k refl (omega arith)
-      (small, subst (λ (a : Swiped). Swipes g amount clock t j a u k) e w) refl n
+module _ (g : Given) (amount clock : ℕ) (small : amount < 4294967296) (t j u k : List ℕ) (r : Totals) where
+  pub swipe_refused_came : (x : Reason) → Swipes g amount clock t j (Err x) u k → Nothing 1 0 r → PlaysOne (swipe g amount t) clock t j r u k
+  swipe_refused_came x w n =
+      nothing_came (swipe g amount t) clock (record { says = Err x; scratch = u }) t j r u k refl (omega arith) (small, w) refl n
 
-  pub swiped_came : (s : ℕ) (d : Left) (r : Totals) → q ≡ swiping.Booked s d → Paid amount r → PlaysOne (swipe g amount t) clock t j r u k
-  swiped_came s d r e n = go (swipe_comes_to g amount clock t j q u k w)
+  pub swiped_came : (y : Receipt) → Swipes g amount clock t j (Ok y) u k → Paid amount r → PlaysOne (swipe g amount t) clock t j r u k
+  swiped_came y w n = go (swipe_comes_to g amount clock t j (Ok y) u k w)
     where
-      go : ComesTo g amount clock j q k → PlaysOne (swipe g amount t) clock t j r u k
+      go : ComesTo g amount clock j (Ok y) k → PlaysOne (swipe g amount t) clock t j r u k
       go (refusal x f h) = let z : ◌≡◌ {A = ℕ} 0 1 = cc in absurd (omega arith)
       go (one_booking p f h) =
-          payment_came (swipe g amount t) clock (record { says = swiping.Booked s d; scratch = u })
-          (record { serial = s; clock = clock; amount = amount; label = p.label; pan = p.pan }) t j r u k
-          (ap (λ (o : Outcome Payer). of_swipe (swiping.Booked s d) o clock amount) f) small refl refl
-          (small, subst (λ (a : Swiped). Swipes g amount clock t j a u k) e w) refl n
+          payment_came (swipe g amount t) clock (record { says = Ok y; scratch = u })
+          (record { serial = y.serial; clock = clock; amount = amount; label = p.label; pan = p.pan }) t j r u k
+          (ap (λ (o : Outcome Payer). of_swipe (Ok y) o clock amount) f) small refl refl (small, w) refl n
 
 pub same_swipe : {g g' : Given} {amount amount' clock clock' : ℕ} (t j : List ℕ) (r : Totals) (u k : List ℕ)
     → g ≡ g' → amount ≡ amount' → clock ≡ clock' → PlaysOne (swipe g amount t) clock t j r u k → PlaysOne (swipe g' amount' t) clock' t j r u k
@@ -165,41 +154,38 @@ module _ (j : List ℕ) (bytes : (i : ℕ) → get_or j i 0 < 256) where
       go true h = let a = amount_fits n (low + 1) in omega arith
       go false h = omega arith
 
-  freed_fits : (m : Newest) (s c y : ℕ) → NewestIs j m → ◌≡◌ {A = Outcome Tally} (gives (record { count = c; sum = y })) (release_rule m j s)
+  freed_fits : (m : Option ℕ) (s c y : ℕ) → NewestIs j m → ◌≡◌ {A = Outcome Released} (gives (record { count = c; sum = y })) (release_rule m j s)
       → (c ≤ 2048) × (y ≤ 8796093020160)
   unfolding release_rule
-  freed_fits Malformed s c y is e = let z : ◌≡◌ {A = ℕ} 0 1 = cc in absurd (omega arith)
-  freed_fits (Is b) s c y f e =
+  freed_fits None s c y is e = let z : ◌≡◌ {A = ℕ} 0 1 = cc in absurd (omega arith)
+  freed_fits (Some b) s c y f e =
       let n : ℕ = slots_of j in
-      let freed : Tally = record { count = length (held_up_to j b s); sum = sum_of (held_up_to j b s) } in
+      let freed : Released = record { count = length (held_up_to j b s); sum = sum_of (held_up_to j b s) } in
       let a = passed (within 1 b s) 20 (gives freed) (record { count = c; sum = y }) (sym e) in
       let r = inside_is 1 b s a.0 in
       let t : freed ≡ record { count = c; sum = y } = cc a.1 in
-      let ec : length (held_up_to j b s) ≡ c = ap (λ (x : Tally). x.count) t in
-      let ey : sum_of (held_up_to j b s) ≡ y = ap (λ (x : Tally). x.sum) t in
+      let ec : length (held_up_to j b s) ≡ c = ap (λ (x : Released). x.count) t in
+      let ey : sum_of (held_up_to j b s) ≡ y = ap (λ (x : Released). x.sum) t in
       let lc = held_at_most j n (b - n) (s - (b - n)) in
       let ly = sum_fits n (b - n) (s - (b - n)) in
       let most : s - (b - n) ≤ 2048 = omega (arith, f.most, r.1) in
       (omega arith, omega arith)
 
-module _ (serial clock : ℕ) (t j k : List ℕ) (q : Released) (w : Releases j serial q k) where
-  pub release_refused_came : (x : Reason) (r : Totals) → q ≡ releasing.Refused x → Nothing 1 0 r → PlaysOne (release serial) clock t j r t k
-  release_refused_came x r e n =
-      nothing_came (release serial) clock (releasing.Refused x) t j r t k refl (omega arith) (subst (λ (a : Released). Releases j serial a k) e w) refl n
+module _ (serial clock : ℕ) (t j k : List ℕ) (r : Totals) where
+  pub release_refused_came : (x : Reason) → Releases j serial (Err x) k → Nothing 1 0 r → PlaysOne (release serial) clock t j r t k
+  release_refused_came x w n = nothing_came (release serial) clock (Err x) t j r t k refl (omega arith) w refl n
 
-  pub released_came : ((i : ℕ) → get_or j i 0 < 256) → (c y : ℕ) → q ≡ releasing.Those c y
-      → PlaysOne (release serial) clock t j (record { booked = 0; takings = 0; released = c; remitted = y; refused = 0; skipped = 0 }) t k
+  pub released_came : ((i : ℕ) → get_or j i 0 < 256) → (y : Released) → Releases j serial (Ok y) k → Freed y r → PlaysOne (release serial) clock t j r t k
   unfolding takings
-  released_came bytes c y e =
-      let v : Releases j serial (releasing.Those c y) k = subst (λ (a : Released). Releases j serial a k) e w in
-      let f = freed_fits j bytes v.view serial c y v.is v.so.0 in
+  released_came bytes y w n =
+      let f = freed_fits j bytes w.view serial y.count y.sum w.is w.so.0 in
       record {
-        answer = releasing.Those c y;
-        does = v;
+        answer = Ok y;
+        does = w;
         scratch = refl;
-        totals = totals_of (record { clock = clock; call = release serial; answer = releasing.Those c y; after = k }) (released_to serial c y) _ refl
-            (record { booked = refl; takings = refl; released = refl; remitted = refl; refused = refl; skipped = refl });
-        small = (omega arith, omega arith, f.0, f.1, omega arith, omega arith);
+        totals = totals_of (record { clock = clock; call = release serial; answer = Ok y; after = k }) (released_to serial y.count y.sum) r refl
+            (record { booked = n.0; takings = n.1; released = n.2; remitted = n.3; refused = n.4; skipped = n.5 });
+        small = (omega (arith, n.0), omega (arith, n.1), omega (arith, n.2, f.0), omega (arith, n.3, f.1), omega (arith, n.4), omega (arith, n.5));
       }
 
 pub same_release : {serial serial' : ℕ} (clock : ℕ) (t j : List ℕ) (r : Totals) (k : List ℕ)
@@ -208,11 +194,8 @@ same_release clock t j r k e w = subst (λ (x : ℕ). PlaysOne (release x) clock
 
 -- ---- the call of a record
 
-pub pan_is : (s : List ℕ) (at n : ℕ) → n ≡ min (get_or s (at + 1) 0) 108 → take (at + 20 + n - (at + 20)) (drop (at + 20) s) ≡ pan_at s at
-pan_is s at n e = let long : at + 20 + n - (at + 20) ≡ n = omega arith in ap (λ (m : ℕ). take m (drop (at + 20) s)) (long ∙ e)
-
-pub stream_is : (s : List ℕ) (at : ℕ) → take (at + 128 - (at + 20)) (drop (at + 20) s) ≡ stream_at s at
-stream_is s at = let long : at + 128 - (at + 20) ≡ 108 = omega arith in ap (λ (m : ℕ). take m (drop (at + 20) s)) long
+pub pan_is : (r : List ℕ) (n : ℕ) → n ≡ min (get_or r 1 0) 108 → take (20 + n - 20) (drop 20 r) ≡ pan_at r 0
+pan_is r n e = let long : 20 + n - 20 ≡ n = omega arith in ap (λ (m : ℕ). take m (drop 20 r)) (long ∙ e)
 
 module _ (s : List ℕ) (terms : Terms) (t : List ℕ) (at : ℕ) where
   pub is_book : kind_at s at ≡ 1 → book (pan_at s at) (label_at s at) (amount_at s at) ≡ call_at s terms t at
@@ -260,3 +243,10 @@ module _ (s : List ℕ) where
   pub whole : length s % 128 ≡ 0 → length s / 128 ≤ 1048576 → script_rule s ≡ gives tt
   unfolding script_rule
   whole e h = simp (eq-eqb (length s % 128) 0 e, le-leb (length s / 128) 1048576 h)
+
+  -- a script that is played isn't too long
+  pub few : script_rule s ≡ gives tt → length s / 128 ≤ 1048576
+  unfolding script_rule
+  few e =
+      let p = passed (eqb (length s % 128) 0) 6 _ tt e in
+      leb-true (length s / 128) 1048576 (passed (leb (length s / 128) 1048576) 99 (gives tt) tt p.1).0

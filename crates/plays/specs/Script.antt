@@ -1,7 +1,10 @@
 -- A script of calls, records of 128 bytes: the call in a record, and what calls come to.
-use Rattle.std.specs.Prelude.{ℕ, min, ◌+◌, ◌*◌, ◌/◌, ◌%◌, ◌≤◌, ◌<◌, ◌≡◌, cond, List, [], ◌∷◌, eqb, leb, get_or, length, take, drop}
+use Rattle.std.specs.Prelude.{ℕ, min, ◌+◌, ◌*◌, ◌/◌, ◌%◌, ◌≤◌, ◌<◌, ◌≡◌, cond, List, [], ◌∷◌, eqb, leb, get_or, length, take, drop, Result, Ok, Err}
+use Rattle.std.specs.Borrow.{Bor}
+use Rattle.std.specs.Simd.{first_chunks}
 use Rattle.text.specs.Numbers.{u16_at, u32_at}
-use Rattle.reasons.specs.Reasons.{Outcome, gives, demand}
+use Rattle.reasons.specs.Reasons.{Outcome, gives, refuses, demand}
+use Rattle.journal.specs.declared.Released.{Released}
 use Rattle.layout.specs.declared.Track.{Track}
 use Rattle.layout.specs.declared.Track.TheVariants.{Two, One}
 use Rattle.dates.specs.Dates.{date}
@@ -10,6 +13,8 @@ use Rattle.payer.specs.Payer.{Terms, given}
 use Rattle.history.specs.History.{Call, book, swipe, release, reads, aside, AnswerTo, Does, Done}
 use Rattle.history.specs.History.{Effect, booked_one, released_to, nothing, effect_of, booked, takings, freed_count, freed_sum}
 use Rattle.plays.specs.declared.Totals.{Totals}
+use Rattle.plays.specs.declared.Unplayed.{Unplayed}
+use Rattle.plays.specs.declared.Unplayed.TheVariants.{NotWhole, TooLong}
 
 -- ---- the script
 
@@ -65,6 +70,12 @@ script_rule s =
     (demand (leb (length s / 128) 1048576) 99
     (gives tt))
 
+-- a script cut into its records, or why it isn't
+abbrev pub Cut : List ℕ → Result (Bor (List (List ℕ))) Unplayed → Type 0
+Cut s (Ok r) = (script_rule s ≡ gives tt) × (r.now ≡ first_chunks 128 (length s / 128) s)
+Cut s (Err NotWhole) = script_rule s ≡ refuses 6
+Cut s (Err TooLong) = script_rule s ≡ refuses 99
+
 -- ---- what calls come to
 
 -- a booking, a swipe or a release that did nothing was refused
@@ -117,6 +128,14 @@ scratch_left aside r t = t
 -- nothing was booked or released
 abbrev pub Nothing : ℕ → ℕ → Totals → Type 0
 Nothing refused skipped r = (r.booked ≡ 0) × (r.takings ≡ 0) × (r.released ≡ 0) × (r.remitted ≡ 0) × (r.refused ≡ refused) × (r.skipped ≡ skipped)
+
+-- one payment of this amount was booked
+abbrev pub Paid : ℕ → Totals → Type 0
+Paid amount r = (r.booked ≡ 1) × (r.takings ≡ amount) × (r.released ≡ 0) × (r.remitted ≡ 0) × (r.refused ≡ 0) × (r.skipped ≡ 0)
+
+-- so much was released
+abbrev pub Freed : Released → Totals → Type 0
+Freed y r = (r.booked ≡ 0) × (r.takings ≡ 0) × (r.released ≡ y.count) × (r.remitted ≡ y.sum) × (r.refused ≡ 0) × (r.skipped ≡ 0)
 
 -- no number of r is larger than so many records can make it
 abbrev pub Bounded : ℕ → Totals → Type 0

@@ -1,21 +1,45 @@
 // One record of a script of calls played, and the totals of calls. For the crates above: all of it is inner.
 #![tactic(auto)]
 
-ghost use Rattle.std.specs.Prelude.{◌≡◌, List, ℕ, min, ◌+◌, ◌≤◌, get_or, length};
-ghost use Rattle.payer.specs.Payer.{terms};
+ghost use Rattle.std.specs.Prelude.{◌≡◌, List, ℕ};
+ghost use Rattle.payer.specs.Payer.{terms_of};
 ghost use Rattle.history.specs.History.{book, release};
-ghost use Rattle.plays.specs.Script.{pan_at, label_at, amount_at, clock_at, serial_at, date_at, swipe_at, call_at, PlaysOne, Fits, Adds};
+ghost use Rattle.plays.specs.Script.{pan_at, label_at, amount_at, clock_at, serial_at, date_at, swipe_at, call_at, Cut};
+ghost use Rattle.plays.specs.Script.{Nothing, Paid, Freed, PlaysOne, Fits, Adds};
 
 use dates::Date;
-use journal::{Booked, Released};
+use journal::Released;
 use layout::Track;
-use swipe::Swiped;
+use payer::Terms;
+
+// ---- a script
+
+// Why no record of a script is played: it is no whole number of records, or it has too many for the totals.
+#[derive(Clone, Copy, Debug, PartialEq, Eq)]
+pub enum Unplayed {
+    NotWhole,
+    TooLong,
+}
+
+// The records of a script.
+pub fn records_of(script: &[u8]) -> Result<&[[u8; 128]], Unplayed>
+    ensures { Cut script.now result }
+{
+    let (records, rest) = script.as_chunks::<128>();
+    if !rest.is_empty() {
+        return Err(Unplayed::NotWhole);
+    }
+    if 1048576 < records.len() {
+        return Err(Unplayed::TooLong);
+    }
+    Ok(records)
+}
 
 // ---- totals
 
 // What calls came to: the payments booked and their amounts, those released and their amounts as the releases answered, the calls refused, and
 // the records that made no call.
-#[derive(Clone, Copy)]
+#[derive(Clone, Copy, Default)]
 pub struct Totals {
     pub booked: u64,
     pub takings: u64,
@@ -23,21 +47,6 @@ pub struct Totals {
     pub remitted: u64,
     pub refused: u64,
     pub skipped: u64,
-}
-
-// Of one record, unless it is a release that was not refused.
-pub fn counted(booked: u64, takings: u64, refused: u64, skipped: u64) -> Totals
-    ensures { (result.booked ≡ booked) × (result.takings ≡ takings) × (result.released ≡ 0) × (result.remitted ≡ 0)
-        × (result.refused ≡ refused) × (result.skipped ≡ skipped) }
-{
-    Totals {
-        booked,
-        takings,
-        released: 0,
-        remitted: 0,
-        refused,
-        skipped,
-    }
 }
 
 pub fn add(t: Totals, u: Totals) -> Totals
@@ -54,152 +63,127 @@ pub fn add(t: Totals, u: Totals) -> Totals
     }
 }
 
+// Of a record that makes no call.
+pub fn one_skipped() -> Totals
+    ensures { Nothing 0 1 result }
+{
+    Totals {
+        skipped: 1,
+        ..Totals::default()
+    }
+}
+
+// Of a call that is refused.
+fn one_refused() -> Totals
+    ensures { Nothing 1 0 result }
+{
+    Totals {
+        refused: 1,
+        ..Totals::default()
+    }
+}
+
+// Of a payment that is booked.
+fn one_booked(amount: u32) -> Totals
+    ensures { Paid amount result }
+{
+    Totals {
+        booked: 1,
+        takings: u64::from(amount),
+        ..Totals::default()
+    }
+}
+
+// Of a release.
+fn one_released(freed: Released) -> Totals
+    ensures { Freed freed result }
+{
+    Totals {
+        released: u64::from(freed.count),
+        remitted: freed.sum,
+        ..Totals::default()
+    }
+}
+
 // ---- one record
 
-// How many bytes the PAN of the record at `at` has.
-fn pan_length(script: &[u8], at: usize) -> usize
-    requires { at + 128 ≤ length script.now }
-    ensures { (result ≡ min (get_or script.now (at + 1) 0) 108) × (result ≤ 108) }
-{
-    let n = script[at + 1] as usize;
-    if 108 < n {
-        return 108;
-    }
-    n
-}
+// What the first byte of a record asks for; any other makes no call.
+const BOOK: u8 = 1;
 
-fn play_book(script: &[u8], at: usize, journal: &mut [u8]) -> Totals
-    requires { at + 128 ≤ length script.now }
-    ensures { (t : List ℕ) → PlaysOne (book (pan_at script.now at) (label_at script.now at) (amount_at script.now at))
-        (clock_at script.now at) t journal.old result t journal.new }
+const RELEASE: u8 = 2;
+
+const SWIPE_TRACK_2: u8 = 3;
+
+const SWIPE_TRACK_1: u8 = 4;
+
+fn play_book(r: &[u8; 128], journal: &mut [u8]) -> Totals
+    ensures { (t : List ℕ) → PlaysOne (book (pan_at r.now 0) (label_at r.now 0) (amount_at r.now 0))
+        (clock_at r.now 0) t journal.old result t journal.new }
 {
-    let n = pan_length(script, at);
-    let label = text::u16_at(script, at + 2);
-    let amount = text::u32_at(script, at + 4);
-    let clock = text::u32_at(script, at + 8);
-    match journal::book(journal, &script[at + 20..at + 20 + n], label, amount, clock) {
-        Booked::Refused(_) => counted(0, 0, 1, 0),
-        Booked::Serial(_) => counted(1, amount as u64, 0, 0),
+    let n = usize::from(r[1]).min(108);
+    let label = text::u16_at(r, 2);
+    let amount = text::u32_at(r, 4);
+    let clock = text::u32_at(r, 8);
+    match journal::book(journal, &r[20..20 + n], label, amount, clock) {
+        Ok(_) => one_booked(amount),
+        Err(_why) => one_refused(),
     }
 }
 
-pub fn play_release(script: &[u8], at: usize, journal: &mut [u8]) -> Totals
-    requires { at + 128 ≤ length script.now }
-    ensures { (t : List ℕ) → PlaysOne (release (serial_at script.now at)) (clock_at script.now at)
+pub fn play_release(r: &[u8; 128], journal: &mut [u8]) -> Totals
+    ensures { (t : List ℕ) → PlaysOne (release (serial_at r.now 0)) (clock_at r.now 0)
         t journal.old result t journal.new }
 {
-    let serial = text::u32_at(script, at + 12);
+    let serial = text::u32_at(r, 12);
     match journal::release(journal, serial) {
-        Released::Refused(_) => counted(0, 0, 1, 0),
-        Released::Those(count, sum) => Totals {
-            booked: 0,
-            takings: 0,
-            released: count as u64,
-            remitted: sum,
-            refused: 0,
-            skipped: 0,
-        },
+        Ok(freed) => one_released(freed),
+        Err(_) => one_refused(),
     }
 }
 
-// The host's date in the record at `at`.
-fn date_at(script: &[u8], at: usize) -> Date
-    requires { at + 128 ≤ length script.now }
-    ensures { result ≡ date_at script.now at }
+// The host's date in a record.
+fn date_of(r: &[u8; 128]) -> Date
+    ensures { result ≡ date_at r.now 0 }
 {
-    let year = text::u16_at(script, at + 12) as u32;
-    let month = script[at + 14] as u32;
-    let day = script[at + 15] as u32;
+    let year = u32::from(text::u16_at(r, 12));
+    let month = u32::from(r[14]);
+    let day = u32::from(r[15]);
     Date { year, month, day }
 }
 
 fn play_swipe(
     track: Track,
-    script: &[u8],
-    at: usize,
-    site: &[u8],
-    acquirer: &[u8],
-    hot: &[u64],
-    digits: u32,
+    r: &[u8; 128],
+    terms: Terms,
     scratch: &mut [u8],
     journal: &mut [u8],
 ) -> Totals
-    requires { at + 128 ≤ length script.now }
-    ensures { PlaysOne (swipe_at track script.now
-        (terms site.now acquirer.now hot.now digits) scratch.old at)
-        (clock_at script.now at) scratch.old journal.old result scratch.new journal.new }
+    ensures { PlaysOne (swipe_at track r.now (terms_of terms.entry) scratch.old 0) (clock_at r.now 0)
+        scratch.old journal.old result scratch.new journal.new }
 {
-    let amount = text::u32_at(script, at + 4);
-    let clock = text::u32_at(script, at + 8);
-    let bits = text::u32_at(script, at + 16);
-    let date = date_at(script, at);
+    let amount = text::u32_at(r, 4);
+    let clock = text::u32_at(r, 8);
+    let bits = u64::from(text::u32_at(r, 16));
+    let date = date_of(r);
+    let stream = &r[20..128];
     match swipe::swipe(
-        track,
-        &script[at + 20..at + 128],
-        bits as u64,
-        site,
-        acquirer,
-        hot,
-        digits,
-        amount,
-        date,
-        clock,
-        scratch,
-        journal,
+        track, stream, bits, terms, amount, date, clock, scratch, journal,
     ) {
-        Swiped::Refused(_) => counted(0, 0, 1, 0),
-        Swiped::Booked(_, _) => counted(1, amount as u64, 0, 0),
+        Ok(_) => one_booked(amount),
+        Err(_) => one_refused(),
     }
 }
 
-// Makes the call in the record at `at`.
-pub fn play(
-    script: &[u8],
-    at: usize,
-    site: &[u8],
-    acquirer: &[u8],
-    hot: &[u64],
-    digits: u32,
-    scratch: &mut [u8],
-    journal: &mut [u8],
-) -> Totals
-    requires { at + 128 ≤ length script.now }
-    ensures { PlaysOne (call_at script.now
-        (terms site.now acquirer.now hot.now digits) scratch.old at)
-        (clock_at script.now at) scratch.old journal.old result scratch.new journal.new }
+// Makes the call in a record.
+pub fn play(r: &[u8; 128], terms: Terms, scratch: &mut [u8], journal: &mut [u8]) -> Totals
+    ensures { PlaysOne (call_at r.now (terms_of terms.entry) scratch.old 0) (clock_at r.now 0)
+        scratch.old journal.old result scratch.new journal.new }
 {
-    let kind = script[at];
-    if kind == 1 {
-        return play_book(script, at, journal);
+    match r[0] {
+        BOOK => play_book(r, journal),
+        RELEASE => play_release(r, journal),
+        SWIPE_TRACK_2 => play_swipe(Track::Two, r, terms, scratch, journal),
+        SWIPE_TRACK_1 => play_swipe(Track::One, r, terms, scratch, journal),
+        _ => one_skipped(),
     }
-    if kind == 2 {
-        return play_release(script, at, journal);
-    }
-    if kind == 3 {
-        return play_swipe(
-            Track::Two,
-            script,
-            at,
-            site,
-            acquirer,
-            hot,
-            digits,
-            scratch,
-            journal,
-        );
-    }
-    if kind == 4 {
-        return play_swipe(
-            Track::One,
-            script,
-            at,
-            site,
-            acquirer,
-            hot,
-            digits,
-            scratch,
-            journal,
-        );
-    }
-    counted(0, 0, 0, 1)
 }

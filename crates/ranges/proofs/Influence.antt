@@ -4,7 +4,7 @@ use mathlib.Core.Path.{◌≡◌, refl, sym, ◌∙◌}
 use mathlib.Core.Logic.{◌⊎◌, inr, ⊎_elim}
 use mathlib.Core.Bool.{true, false}
 use mathlib.Core.List.{List}
-use mathlib.Core.Option.{Option, some, none}
+use Rattle.std.specs.Prelude.{Option, Some, None}
 use native.Mathlib.Omega.{arith}
 use lib.ListN.{length, get_or}
 use Rattle.text.specs.Numbers.{u32_at}
@@ -74,11 +74,11 @@ module _ (t u : List ℕ) (p n : ℕ) (same : SameFor t u p n) where
       }
 
   by_choice : (o : Option ℕ) → choice t p n ≡ o → o ≡ choice u p n
-  by_choice none f =
+  by_choice None f =
       sym (none_chosen u p n (λ k l.
       let i : k < length t / 16 = omega (arith, same.long) in
       sym (alike k i).0 ∙ chosen_none t p n f k i))
-  by_choice (some a) f = sym (narrowest_chosen u p n a (as_narrow a (chosen_narrowest t p n a f)))
+  by_choice (Some a) f = sym (narrowest_chosen u p n a (as_narrow a (chosen_narrowest t p n a f)))
 
   -- and the same choice
   pub no_influence : choice t p n ≡ choice u p n

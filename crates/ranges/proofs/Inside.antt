@@ -3,7 +3,7 @@ use Prim.Native.Nat.{ℕ, ◌+◌, ◌≤◌}
 use mathlib.Core.Path.{◌≡◌, refl, sym, ◌∙◌, subst}
 use mathlib.Core.Bool.{true}
 use mathlib.Core.List.{List}
-use mathlib.Core.Option.{Option, some, none}
+use Rattle.std.specs.Prelude.{Option, Some, None}
 use native.Mathlib.Omega.{arith}
 use lib.ListN.{length}
 use denote.Ref.{Bor}
@@ -12,20 +12,22 @@ use Rattle.text.specs.Parts.{PartOf}
 use Rattle.reasons.specs.Reasons.{Outcome, gives, refuses}
 use Rattle.reasons.proofs.Laws.{passed, gives_refuses}
 use Rattle.pan.specs.Pan.{pan_length}
-use Rattle.ranges.specs.Ranges.{table_ok, prefix_of, choice, Place, in_site, in_acquirer, place_rule, range_rule}
+use Rattle.ranges.specs.Ranges.{table_ok, prefix_of, choice, place_rule, range_rule}
+use Rattle.ranges.specs.declared.Place.{Place}
+use Rattle.ranges.specs.declared.Place.TheVariants.{Site, Acquirer}
 use Rattle.ranges.specs.Ranges.{LooksUp, of_site, of_acquirer, nothing}
 use Rattle.ranges.proofs.Steps.{at_site, at_acquirer, no_range}
 use Rattle.ranges.proofs.Narrowest.{IsNarrowest, NoneFits, chosen_narrowest, chosen_none}
 
 -- a place lies inside the tables: m bytes of the site's, n of the acquirer's
 pub data Inside (m n : ℕ) : Place → Type 0 where
-  site_in : {at : ℕ} → at + 16 ≤ m → Inside m n (in_site at)
-  acquirer_in : {at : ℕ} → at + 16 ≤ n → Inside m n (in_acquirer at)
+  site_in : {at : ℕ} → at + 16 ≤ m → Inside m n (Site at)
+  acquirer_in : {at : ℕ} → at + 16 ≤ n → Inside m n (Acquirer at)
 
-pub site_end : {m n at : ℕ} → Inside m n (in_site at) → at + 16 ≤ m
+pub site_end : {m n at : ℕ} → Inside m n (Site at) → at + 16 ≤ m
 site_end (site_in h) = h
 
-pub acquirer_end : {m n at : ℕ} → Inside m n (in_acquirer at) → at + 16 ≤ n
+pub acquirer_end : {m n at : ℕ} → Inside m n (Acquirer at) → at + 16 ≤ n
 acquirer_end (acquirer_in h) = h
 
 -- what is given is one
@@ -34,19 +36,19 @@ given v w e = cc
 
 -- where an answer stands: the narrowest of the site's table, else of the acquirer's
 pub data Answer (site acquirer : List ℕ) (p n : ℕ) : Place → Type 0 where
-  the_site's : {at : ℕ} → IsNarrowest site p n at → Answer site acquirer p n (in_site at)
-  the_acquirer's : {at : ℕ} → NoneFits site p n → IsNarrowest acquirer p n at → Answer site acquirer p n (in_acquirer at)
+  the_site's : {at : ℕ} → IsNarrowest site p n at → Answer site acquirer p n (Site at)
+  the_acquirer's : {at : ℕ} → NoneFits site p n → IsNarrowest acquirer p n at → Answer site acquirer p n (Acquirer at)
 
 module _ (site acquirer pan : List ℕ) where
   by_choices : (a b : Option ℕ) → choice site (prefix_of pan) (length pan) ≡ a → choice acquirer (prefix_of pan) (length pan) ≡ b
       → (w : Place) → place_rule site acquirer pan ≡ gives w → Answer site acquirer (prefix_of pan) (length pan) w
-  by_choices (some at) b e f w g =
-      let q = given (in_site at) w (sym (at_site site acquirer pan at e) ∙ g) in
+  by_choices (Some at) b e f w g =
+      let q = given (Site at) w (sym (at_site site acquirer pan at e) ∙ g) in
       subst (Answer site acquirer _ _) q (the_site's (chosen_narrowest site _ _ at e))
-  by_choices none (some at) e f w g =
-      let q = given (in_acquirer at) w (sym (at_acquirer site acquirer pan e at f) ∙ g) in
+  by_choices None (Some at) e f w g =
+      let q = given (Acquirer at) w (sym (at_acquirer site acquirer pan e at f) ∙ g) in
       subst (Answer site acquirer _ _) q (the_acquirer's (chosen_none site _ _ e) (chosen_narrowest acquirer _ _ at f))
-  by_choices none none e f w g = gives_refuses w 15 (sym g ∙ no_range site acquirer pan e f)
+  by_choices None None e f w g = gives_refuses w 15 (sym g ∙ no_range site acquirer pan e f)
 
   -- "Look-up must answer the fitting record with the smallest high less low"
   pub place_narrowest : (w : Place) → place_rule site acquirer pan ≡ gives w → Answer site acquirer (prefix_of pan) (length pan) w
@@ -80,10 +82,10 @@ module _ (site acquirer pan : List ℕ) where
 
 -- the part that a given place names
 module _ (site acquirer r : Bor (List ℕ)) (o : Outcome Place) where
-  pub site_part : (at : ℕ) → o ≡ gives (in_site at) → PartOf site at 16 r → LooksUp site acquirer o r
+  pub site_part : (at : ℕ) → o ≡ gives (Site at) → PartOf site at 16 r → LooksUp site acquirer o r
   site_part at e h = rw e (of_site h)
 
-  pub acquirer_part : (at : ℕ) → o ≡ gives (in_acquirer at) → PartOf acquirer at 16 r → LooksUp site acquirer o r
+  pub acquirer_part : (at : ℕ) → o ≡ gives (Acquirer at) → PartOf acquirer at 16 r → LooksUp site acquirer o r
   acquirer_part at e h = rw e (of_acquirer h)
 
   pub no_part : (n : ℕ) → o ≡ refuses n → PartOf site 0 0 r → LooksUp site acquirer o r

@@ -4,7 +4,7 @@ use mathlib.Core.Path.{◌≡◌, refl, sym, ap, ◌∙◌, subst}
 use mathlib.Core.Bool.{true, false}
 use mathlib.Core.Logic.{◌↔◌}
 use mathlib.Core.List.{List, []}
-use mathlib.Core.Option.{Option, some, none}
+use Rattle.std.specs.Prelude.{Option, Some, None, Result, Ok, Err}
 use native.Mathlib.Omega.{arith}
 use native.Mathlib.Decide.{dec_lt}
 use lib.ListN.{length, take}
@@ -12,30 +12,22 @@ use denote.Ref.{Bor}
 use Rattle.text.specs.Bytes.{all_digits}
 use Rattle.text.specs.Parts.{PartOf}
 use Rattle.text.proofs.Parts.{Same, part_one}
-use Rattle.reasons.specs.Reasons.{Outcome, gives, refuses, number_of, number_in}
-use Rattle.reasons.proofs.Laws.{First, refuses_exactly, gives_refuses, refused_number, refuses_one}
+use Rattle.reasons.specs.Reasons.{Outcome, gives, refuses, number_in, said}
+use Rattle.reasons.proofs.Laws.{First, refuses_exactly, gives_refuses, refused_number, said_one}
 use Rattle.reasons.specs.declared.Reason.{Reason}
 use Rattle.pan.specs.Pan.{pan_length}
-use Rattle.ranges.specs.declared.Found.{Found}
-use Rattle.ranges.specs.declared.Found.TheVariants.{Site, Acquirer, Refused}
 use Rattle.ranges.specs.Ranges.{table_ok, low, high, prefix_of, fits, width, best_of, choice}
-use Rattle.ranges.specs.Ranges.{Place, in_site, in_acquirer, place_rule, range_rule, label_at, label_rule}
-use Rattle.ranges.specs.Ranges.{said_found, LooksUp, of_site, of_acquirer, nothing}
+use Rattle.ranges.specs.Ranges.{place_rule, range_rule, label_at, label_rule}
+use Rattle.ranges.specs.declared.Place.{Place}
+use Rattle.ranges.specs.declared.Place.TheVariants.{Site, Acquirer}
+use Rattle.ranges.specs.Ranges.{LooksUp, of_site, of_acquirer, nothing}
 use Rattle.ranges.proofs.Steps.{below, above, at_site, at_acquirer, no_range, label_given, label_refused}
 use Rattle.ranges.proofs.Narrowest.{IsNarrowest, NoneFits, both_ways, chosen_narrowest, chosen_none}
 use Rattle.ranges.proofs.Inside.{given, Answer, the_site's, the_acquirer's, place_narrowest, range_place}
 
 -- any two answers that a look-up allows are equal: place, part and number
-pub found_one : (r q : Found) → said_found r ≡ said_found q → r ≡ q
-found_one (Site a) (Site b) e = cc
-found_one (Site a) (Acquirer b) e = cc
-found_one (Site a) (Refused y) e = gives_refuses (in_site a) (number_of y) e
-found_one (Acquirer a) (Site b) e = cc
-found_one (Acquirer a) (Acquirer b) e = cc
-found_one (Acquirer a) (Refused y) e = gives_refuses (in_acquirer a) (number_of y) e
-found_one (Refused x) (Site b) e = gives_refuses (in_site b) (number_of x) (sym e)
-found_one (Refused x) (Acquirer b) e = gives_refuses (in_acquirer b) (number_of x) (sym e)
-found_one (Refused x) (Refused y) e = ap Refused (refuses_one x y e)
+pub found_one : (r q : Result Place Reason) → said r ≡ said q → r ≡ q
+found_one r q e = said_one r q e
 
 pub look_up_one : {s a : Bor (List ℕ)} {o : Outcome Place} {r q : Bor (List ℕ)} → LooksUp s a o r → LooksUp s a o q → Same r q
 look_up_one (of_site f) (of_site g) = part_one _ _ _ _ _ f g
@@ -46,22 +38,22 @@ pub look_up_number_one : (s a pan : List ℕ) (n m : ℕ) → n ≡ number_in (r
 look_up_number_one s a pan n m f g = f ∙ sym g
 
 -- "the answer also says which table it was": the part that `look_up` gives lies in the table that `find` names, at the offset that `find` names
-pub data WhichTable (site acquirer : Bor (List ℕ)) : Found → Bor (List ℕ) → Type 0 where
-  in_site's : {at : ℕ} {r : Bor (List ℕ)} → PartOf site at 16 r → WhichTable site acquirer (Site at) r
-  in_acquirer's : {at : ℕ} {r : Bor (List ℕ)} → PartOf acquirer at 16 r → WhichTable site acquirer (Acquirer at) r
-  in_neither : {why : Reason} {r : Bor (List ℕ)} → PartOf site 0 0 r → WhichTable site acquirer (Refused why) r
+pub data WhichTable (site acquirer : Bor (List ℕ)) : Result Place Reason → Bor (List ℕ) → Type 0 where
+  in_site's : {at : ℕ} {r : Bor (List ℕ)} → PartOf site at 16 r → WhichTable site acquirer (Ok (Site at)) r
+  in_acquirer's : {at : ℕ} {r : Bor (List ℕ)} → PartOf acquirer at 16 r → WhichTable site acquirer (Ok (Acquirer at)) r
+  in_neither : {why : Reason} {r : Bor (List ℕ)} → PartOf site 0 0 r → WhichTable site acquirer (Err why) r
 
-pub which_table : {s a : Bor (List ℕ)} {o : Outcome Place} {r : Bor (List ℕ)} (f : Found) → said_found f ≡ o → LooksUp s a o r → WhichTable s a f r
+pub which_table : {s a : Bor (List ℕ)} {o : Outcome Place} {r : Bor (List ℕ)} (f : Result Place Reason) → said f ≡ o → LooksUp s a o r → WhichTable s a f r
 which_table {s} {a} {o} {r} f e h = by f (subst (λ (x : Outcome Place). LooksUp s a x r) (sym e) h)
   where
-    by : (f : Found) → LooksUp s a (said_found f) r → WhichTable s a f r
-    by (Site at) (of_site g) = in_site's g
-    by (Acquirer at) (of_acquirer g) = in_acquirer's g
-    by (Refused why) (nothing g) = in_neither g
+    by : (f : Result Place Reason) → LooksUp s a (said f) r → WhichTable s a f r
+    by (Ok (Site at)) (of_site g) = in_site's g
+    by (Ok (Acquirer at)) (of_acquirer g) = in_acquirer's g
+    by (Err why) (nothing g) = in_neither g
 
 module _ (t : List ℕ) (p n : ℕ) where
   -- of equally narrow records the one that is chosen stands first,
-  pub equals_later : (a k : ℕ) → choice t p n ≡ some a → fits t (16 * k) p n ≡ true → width t (16 * k) ≡ width t a → a ≤ 16 * k
+  pub equals_later : (a k : ℕ) → choice t p n ≡ Some a → fits t (16 * k) p n ≡ true → width t (16 * k) ≡ width t a → a ≤ 16 * k
   equals_later a k e f w = by (dec_lt (16 * k) a)
     where
       by : Dec (16 * k < a) → a ≤ 16 * k
@@ -84,31 +76,31 @@ module _ (t : List ℕ) (p n : ℕ) where
       let q : 16 * (a / 16) ≡ a = omega (arith, f.whole) in
       both_ways t p n a f.fit (rw q at (g (a / 16) (omega (arith, f.inside))))
 
-  by_choice : (a : ℕ) (o : Option ℕ) → choice t p n ≡ o → IsNarrowest t p n a → o ≡ some a
-  by_choice a none e f = not_none a f (chosen_none t p n e)
-  by_choice a (some b) e f =
+  by_choice : (a : ℕ) (o : Option ℕ) → choice t p n ≡ o → IsNarrowest t p n a → o ≡ Some a
+  by_choice a None e f = not_none a f (chosen_none t p n e)
+  by_choice a (Some b) e f =
       let g = chosen_narrowest t p n b e in
-      ap some (omega (arith, no_later a b f g (dec_lt b a), no_later b a g f (dec_lt a b)))
+      ap Some (omega (arith, no_later a b f g (dec_lt b a), no_later b a g f (dec_lt a b)))
 
   -- what is the narrowest is chosen,
-  pub narrowest_chosen : (a : ℕ) → IsNarrowest t p n a → choice t p n ≡ some a
+  pub narrowest_chosen : (a : ℕ) → IsNarrowest t p n a → choice t p n ≡ Some a
   narrowest_chosen a f = by_choice a (choice t p n) refl f
 
-  by_none : (o : Option ℕ) → choice t p n ≡ o → NoneFits t p n → o ≡ none
-  by_none none e f = refl
-  by_none (some a) e f = not_none a (chosen_narrowest t p n a e) f
+  by_none : (o : Option ℕ) → choice t p n ≡ o → NoneFits t p n → o ≡ None
+  by_none None e f = refl
+  by_none (Some a) e f = not_none a (chosen_narrowest t p n a e) f
 
   -- where nothing fits, nothing is chosen,
-  pub none_chosen : NoneFits t p n → choice t p n ≡ none
+  pub none_chosen : NoneFits t p n → choice t p n ≡ None
   none_chosen f = by_none (choice t p n) refl f
 
   -- and where a record fits, one is
-  pub some_chosen : (k : ℕ) → k < length t / 16 → fits t (16 * k) p n ≡ true → (a : ℕ) × (choice t p n ≡ some a)
+  pub some_chosen : (k : ℕ) → k < length t / 16 → fits t (16 * k) p n ≡ true → (a : ℕ) × (choice t p n ≡ Some a)
   some_chosen k l f = by (choice t p n) refl
     where
-      by : (o : Option ℕ) → choice t p n ≡ o → (a : ℕ) × (choice t p n ≡ some a)
-      by none e = both_ways t p n (16 * k) f (chosen_none t p n e k l)
-      by (some a) e = (a, e)
+      by : (o : Option ℕ) → choice t p n ≡ o → (a : ℕ) × (choice t p n ≡ Some a)
+      by None e = both_ways t p n (16 * k) f (chosen_none t p n e k l)
+      by (Some a) e = (a, e)
 
 module _ (site acquirer pan : List ℕ) where
   -- "Look-up must answer the fitting record with the smallest high less low": what it answers is that one, and that one is what it answers
@@ -138,9 +130,9 @@ module _ (site acquirer pan : List ℕ) where
 
   neither : (a b : Option ℕ) → choice site (prefix_of pan) (length pan) ≡ a → choice acquirer (prefix_of pan) (length pan) ≡ b → (n : ℕ)
       → place_rule site acquirer pan ≡ refuses n → (n ≡ 15) × NoRange
-  neither (some at) b e f n g = gives_refuses (in_site at) n (sym (at_site site acquirer pan at e) ∙ g)
-  neither none (some at) e f n g = gives_refuses (in_acquirer at) n (sym (at_acquirer site acquirer pan e at f) ∙ g)
-  neither none none e f n g =
+  neither (Some at) b e f n g = gives_refuses (Site at) n (sym (at_site site acquirer pan at e) ∙ g)
+  neither None (Some at) e f n g = gives_refuses (Acquirer at) n (sym (at_acquirer site acquirer pan e at f) ∙ g)
+  neither None None e f n g =
       (sym (refused_number 15 n (sym (no_range site acquirer pan e f) ∙ g)), (chosen_none site _ _ e, chosen_none acquirer _ _ f))
 
   pub place_refuses : (n : ℕ) → (place_rule site acquirer pan ≡ refuses n) ↔ ((n ≡ 15) × NoRange)
@@ -165,7 +157,7 @@ module _ (site acquirer pan : List ℕ) where
 
 -- "A fitting record in the site's table still wins over all of the acquirer's", whatever records those are
 pub site_wins : (site pan : List ℕ) (k : ℕ) → k < length site / 16 → fits site (16 * k) (prefix_of pan) (length pan) ≡ true
-    → (a : ℕ) × IsNarrowest site (prefix_of pan) (length pan) a × ((acquirer : List ℕ) → place_rule site acquirer pan ≡ gives (in_site a))
+    → (a : ℕ) × IsNarrowest site (prefix_of pan) (length pan) a × ((acquirer : List ℕ) → place_rule site acquirer pan ≡ gives (Site a))
 site_wins site pan k l f =
     let c = some_chosen site _ _ k l f in
     (c.0, chosen_narrowest site _ _ c.0 c.1, λ acquirer. at_site site acquirer pan c.0 c.1)
@@ -179,7 +171,7 @@ low_above_high t at p n h = by (dec_lt p (low t at))
     by (no l) = above t at p n (omega arith)
 
 -- "Empty tables are allowed"
-pub empty_allowed : (p n : ℕ) → (table_ok [] ≡ true) × (choice [] p n ≡ none)
+pub empty_allowed : (p n : ℕ) → (table_ok [] ≡ true) × (choice [] p n ≡ None)
 unfolding table_ok choice best_of
 empty_allowed p n = (refl, refl)
 

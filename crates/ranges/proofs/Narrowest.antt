@@ -1,14 +1,18 @@
 -- The best of a table's records: what it is, and what a search for it keeps.
 use Prim.Native.Nat.{ℕ, zero, suc, ◌+◌, ◌*◌, ◌/◌, ◌%◌, ◌<◌, ◌≤◌}
-use mathlib.Core.Path.{◌≡◌, refl, sym, ◌∙◌, subst}
+use mathlib.Core.Path.{◌≡◌, refl, sym, ap, ◌∙◌, subst}
 use mathlib.Core.Bool.{Bool, true, false, true≢false}
 use mathlib.Core.List.{List}
-use mathlib.Core.Option.{Option, some, none}
+use Rattle.std.specs.Prelude.{Option, Some, None, IsTrue}
+use Rattle.std.specs.Option.{MatchOption, IsSomeAnd}
+use Rattle.std.proofs.lemmas.Option.{MatchOption-at_none, MatchOption-at_some}
+use lib.Dec.{ltb}
 use native.Mathlib.Omega.{arith}
 use native.Mathlib.Decide.{dec_lt}
 use borrow.Author.Tests.{lt-ltb, le-ltb}
 use lib.ListN.{length}
-use Rattle.ranges.specs.Ranges.{fits, width, better, best_of, choice}
+use Rattle.ranges.specs.declared.inner.Fitting.{Fitting}
+use Rattle.ranges.specs.Ranges.{fits, width, narrower, better, best_of, choice}
 
 -- of a table's first m records the one at a fits, no fitting one is narrower, and the fitting ones before it are wider
 pub record NarrowestOf (t : List ℕ) (p n m a : ℕ) : Type 0 where
@@ -32,8 +36,8 @@ NoneFits t p n = NoneOf t p n (length t / 16)
 
 -- what a choice among the first m records says
 data Best (t : List ℕ) (p n m : ℕ) : Option ℕ → Type 0 where
-  no_record : NoneOf t p n m → Best t p n m none
-  record_at_lem : {a : ℕ} → NarrowestOf t p n m a → Best t p n m (some a)
+  no_record : NoneOf t p n m → Best t p n m None
+  record_at_lem : {a : ℕ} → NarrowestOf t p n m a → Best t p n m (Some a)
 
 -- what holds of the first m and of the next holds of one more
 with_next : (P : ℕ → Type 0) (m : ℕ) → ((k : ℕ) → k < m → P k) → P m → (k : ℕ) → k < suc m → P k
@@ -82,7 +86,7 @@ module _ (t : List ℕ) (p n : ℕ) where
   hits m (no_record g) f = rw f (record_at_lem (takes_over m f (λ k l h. both_ways (16 * k) h (g k l))))
   hits m (record_at_lem {a = a} r) f = by (dec_lt (width t (16 * m)) (width t a))
     where
-      by : Dec (width t (16 * m) < width t a) → Best t p n (suc m) (better t p n (16 * m) (some a))
+      by : Dec (width t (16 * m) < width t a) → Best t p n (suc m) (better t p n (16 * m) (Some a))
       by (yes w) = rw (f, lt-ltb _ _ w) (record_at_lem (takes_over m f (λ k l h. omega (arith, r.narrowest k l h))))
       by (no w) =
           let v : width t a ≤ width t (16 * m) = omega arith in
@@ -98,59 +102,55 @@ module _ (t : List ℕ) (p n : ℕ) where
   best_of_lem zero = no_record (λ k l. absurd (omega arith))
   best_of_lem (suc m) = turn m (best_of t p n m) (best_of_lem m) (fits t (16 * m) p n) refl
 
-  the_one : {m a : ℕ} → Best t p n m (some a) → NarrowestOf t p n m a
+  the_one : {m a : ℕ} → Best t p n m (Some a) → NarrowestOf t p n m a
   the_one (record_at_lem r) = r
 
-  the_none : {m : ℕ} → Best t p n m none → NoneOf t p n m
+  the_none : {m : ℕ} → Best t p n m None → NoneOf t p n m
   the_none (no_record g) = g
 
   -- of the whole table: what is chosen is the narrowest,
-  pub chosen_narrowest : (a : ℕ) → choice t p n ≡ some a → IsNarrowest t p n a
+  pub chosen_narrowest : (a : ℕ) → choice t p n ≡ Some a → IsNarrowest t p n a
   unfolding choice
   chosen_narrowest a e = the_one (subst (Best t p n (length t / 16)) e (best_of_lem (length t / 16)))
 
   -- and where nothing is chosen, nothing fits
-  pub chosen_none : choice t p n ≡ none → NoneFits t p n
+  pub chosen_none : choice t p n ≡ None → NoneFits t p n
   unfolding choice
   chosen_none e = the_none (subst (Best t p n (length t / 16)) e (best_of_lem (length t / 16)))
 
--- what a search keeps of the records before its place: b is where the best of them begins and w how wide it is; before there is one, b is the
--- table's end or lies behind it, and w is more than any width
-pub data Kept (t : List ℕ) (e b w : ℕ) : Option ℕ → Type 0 where
-  nothing_yet : e ≤ b → 4294967295 < w → Kept t e b w none
-  this_one : b < e → w ≡ width t b → Kept t e b w (some b)
+-- a record that fits, as a search keeps it
+abbrev pub fitting : List ℕ → ℕ → Fitting
+fitting t at = record { at = at; width = width t at }
 
-module _ (t : List ℕ) (p n e at : ℕ) where
-  -- one turn: the record doesn't fit, is narrower, or isn't
-  pub kept_on : {b w : ℕ} {o : Option ℕ} → Kept t e b w o → fits t at p n ≡ false → Kept t e b w (better t p n at o)
-  kept_on h f = rw f h
+-- what a search keeps of the records before its place: the best of them
+abbrev pub kept : List ℕ → Option ℕ → Option Fitting
+kept t None = None
+kept t (Some at) = Some (fitting t at)
 
-  pub kept_new : {b w : ℕ} {o : Option ℕ} → Kept t e b w o → at < e → fits t at p n ≡ true → width t at < w
-      → Kept t e at (width t at) (better t p n at o)
-  kept_new (nothing_yet h i) l f g = rw f (this_one l refl)
-  kept_new (this_one h i) l f g = let v = lt-ltb _ _ (rw i at g) in rw (f, v) (this_one l refl)
+module _ (t : List ℕ) (p n at : ℕ) where
+  -- one turn: the record doesn't fit,
+  pub kept_on : (o : Option ℕ) → fits t at p n ≡ false → kept t o ≡ kept t (better t p n at o)
+  kept_on o f = rw f
 
-  pub kept_old : {b w : ℕ} {o : Option ℕ} → Kept t e b w o → width t at ≤ 4294967295 → fits t at p n ≡ true → w ≤ width t at
-      → Kept t e b w (better t p n at o)
-  kept_old (nothing_yet h i) l f g = absurd (omega arith)
-  kept_old (this_one h i) l f g = let v = le-ltb _ _ (rw i at g) in rw (f, v) (this_one h i)
+  -- or it fits, and is narrower or isn't
+  pub kept_new : (o : Option ℕ) → fits t at p n ≡ true → narrower t at o ≡ true → Some (fitting t at) ≡ kept t (better t p n at o)
+  kept_new o f g = rw (f, g)
 
-  -- with that record one more is counted
-  pub one_more : at % 16 ≡ 0 → better t p n at (best_of t p n (at / 16)) ≡ best_of t p n ((at + 16) / 16)
-  unfolding best_of
-  one_more h =
-      let q : (at + 16) / 16 ≡ suc (at / 16) = omega arith in
-      let s : 16 * (at / 16) ≡ at = omega arith in
-      rw (q, s)
+  pub kept_old : (o : Option ℕ) → fits t at p n ≡ true → narrower t at o ≡ false → kept t o ≡ kept t (better t p n at o)
+  kept_old o f g = rw (f, g)
 
-pub kept_as : {t : List ℕ} {e b c w v : ℕ} {o q : Option ℕ} → Kept t e b w o → o ≡ q → c ≡ b → v ≡ w → Kept t e c v q
-kept_as {t} {e} h f g i = rw (g, i, sym f) h
+-- what `is_none_or` and `map` say of what is kept
+module _ (t : List ℕ) where
+  pub narrower_told : {P : Fitting → Type 0} (at w : ℕ) (o : Option ℕ) (best : Option Fitting) (r : Bool) → w ≡ width t at → best ≡ kept t o
+      → MatchOption best (IsTrue r) P → ((b : Fitting) → P b → r ≡ ltb w b.width) → r ≡ narrower t at o
+  narrower_told at w None best r i e h f = MatchOption-at_none _ _ e h
+  narrower_told at w (Some b) best r i e h f = f (fitting t b) (MatchOption-at_some _ _ _ e h) ∙ ap (λ (n : ℕ). ltb n (width t b)) i
 
--- what is kept says what is chosen
-pub kept_is : {t : List ℕ} {e b w : ℕ} {o : Option ℕ} → Kept t e b w o → b < e → some b ≡ o
-kept_is (nothing_yet h i) l = absurd (omega arith)
-kept_is (this_one h i) l = refl
-
-pub kept-none : {t : List ℕ} {e b w : ℕ} {o : Option ℕ} → Kept t e b w o → e ≤ b → none ≡ o
-kept-none (nothing_yet h i) l = refl
-kept-none (this_one h i) l = absurd (omega arith)
+  pub place_told : {Q : Fitting → ℕ → Type 0} (o : Option ℕ) (best : Option Fitting) (r : Option ℕ) → best ≡ kept t o
+      → MatchOption best (r ≡ None) (λ b. IsSomeAnd r (Q b)) → ((b : Fitting) (at : ℕ) → Q b at → at ≡ b.at) → r ≡ o
+  place_told None best r e h f = MatchOption-at_none _ _ e h
+  place_told {Q} (Some b) best r e h f = by r (MatchOption-at_some _ _ _ e h)
+    where
+      by : (r : Option ℕ) → IsSomeAnd r (Q (fitting t b)) → r ≡ Some b
+      by None g = absurd g
+      by (Some at) g = ap Some (f (fitting t b) at g)

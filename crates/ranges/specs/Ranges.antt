@@ -1,14 +1,13 @@
 -- Range tables, and the look-up of a card number in them (document 01, 'Card numbers, masking and ranges').
-use Rattle.std.specs.Prelude.{ℕ, zero, suc, ◌+◌, ◌-◌, ◌*◌, ◌/◌, ◌%◌, Bool, true, cond, ◌&&◌, List, leb, ltb, eqb, length, get_or, take}
-use Rattle.std.proofs.Math.Option.{Option, some, none}
+use Rattle.std.specs.Prelude.{ℕ, zero, suc, ◌+◌, ◌-◌, ◌*◌, ◌/◌, ◌%◌, Bool, true, cond, ◌&&◌, Option, Some, None, List, leb, ltb, eqb, length, get_or, take}
 use Rattle.std.specs.Borrow.{Bor}
 use Rattle.text.specs.Bytes.{within, all_digits}
 use Rattle.text.specs.Numbers.{u16_at, u32_at, decimal}
 use Rattle.text.specs.Parts.{PartOf}
-use Rattle.reasons.specs.Reasons.{Outcome, gives, refuses, demand, and_then, number_of}
+use Rattle.reasons.specs.Reasons.{Outcome, gives, refuses, demand, and_then}
 use Rattle.pan.specs.Pan.{pan_length}
-use Rattle.ranges.specs.declared.Found.{Found}
-use Rattle.ranges.specs.declared.Found.TheVariants.{Site, Acquirer, Refused}
+use Rattle.ranges.specs.declared.Place.{Place}
+use Rattle.ranges.specs.declared.Place.TheVariants.{Site, Acquirer}
 
 -- the table's byte length is a multiple of 16, and not over 65,536
 unfoldable pub table_ok : List ℕ → Bool
@@ -44,32 +43,27 @@ width t at = high t at - low t at
 
 -- a record is narrower than the best of those before it, or there is none
 abbrev pub narrower : List ℕ → ℕ → Option ℕ → Bool
-narrower t at none = true
-narrower t at (some best) = ltb (width t at) (width t best)
+narrower t at None = true
+narrower t at (Some best) = ltb (width t at) (width t best)
 
 -- the best of the records up to the one at `at`, given the best of those before it: "of equals, the earlier"
 abbrev pub better : List ℕ → ℕ → ℕ → ℕ → Option ℕ → Option ℕ
-better t p n at best = cond (fits t at p n && narrower t at best) (some at) best
+better t p n at best = cond (fits t at p n && narrower t at best) (Some at) best
 
 -- of the first m records, where "the fitting record with the smallest high less low; of equals, the earlier" begins
 unfoldable pub best_of : List ℕ → ℕ → ℕ → ℕ → Option ℕ
-best_of t p n zero = none
+best_of t p n zero = None
 best_of t p n (suc m) = better t p n (16 * m) (best_of t p n m)
 
 -- the choice within one table (document 02, E4)
 unfoldable pub choice : List ℕ → ℕ → ℕ → Option ℕ
 choice t p n = best_of t p n (length t / 16)
 
--- where a record stands: the table that holds it, and the offset there
-pub data Place : Type 0 where
-  in_site : ℕ → Place
-  in_acquirer : ℕ → Place
-
 -- the site's choice, else the acquirer's, else 15
 abbrev pub site_first : Option ℕ → Option ℕ → Outcome Place
-site_first (some at) other = gives (in_site at)
-site_first none (some at) = gives (in_acquirer at)
-site_first none none = refuses 15
+site_first (Some at) other = gives (Site at)
+site_first None (Some at) = gives (Acquirer at)
+site_first None None = refuses 15
 
 -- where the record of a PAN stands, in tables that passed
 unfoldable pub place_rule : List ℕ → List ℕ → List ℕ → Outcome Place
@@ -86,21 +80,15 @@ range_rule site acquirer pan =
 
 -- the label of the record at a place
 abbrev pub label_at : List ℕ → List ℕ → Place → ℕ
-label_at site acquirer (in_site at) = label site at
-label_at site acquirer (in_acquirer at) = label acquirer at
+label_at site acquirer (Site at) = label site at
+label_at site acquirer (Acquirer at) = label acquirer at
 
 -- the label of a PAN's record, in tables that passed
 unfoldable pub label_rule : List ℕ → List ℕ → List ℕ → Outcome ℕ
 label_rule site acquirer pan = and_then (place_rule site acquirer pan) (λ w. gives (label_at site acquirer w))
 
--- what the cases of the answer say in the paper's terms
-abbrev pub said_found : Found → Outcome Place
-said_found (Site at) = gives (in_site at)
-said_found (Acquirer at) = gives (in_acquirer at)
-said_found (Refused r) = refuses (number_of r)
-
 -- r is the record's own 16 bytes, a part of the table that holds it; where the call refuses, the empty part at the start of the site's
 pub data LooksUp (site acquirer : Bor (List ℕ)) : Outcome Place → Bor (List ℕ) → Type 0 where
-  of_site : {at : ℕ} {r : Bor (List ℕ)} → PartOf site at 16 r → LooksUp site acquirer (gives (in_site at)) r
-  of_acquirer : {at : ℕ} {r : Bor (List ℕ)} → PartOf acquirer at 16 r → LooksUp site acquirer (gives (in_acquirer at)) r
+  of_site : {at : ℕ} {r : Bor (List ℕ)} → PartOf site at 16 r → LooksUp site acquirer (gives (Site at)) r
+  of_acquirer : {at : ℕ} {r : Bor (List ℕ)} → PartOf acquirer at 16 r → LooksUp site acquirer (gives (Acquirer at)) r
   nothing : {n : ℕ} {r : Bor (List ℕ)} → PartOf site 0 0 r → LooksUp site acquirer (refuses n) r

@@ -4,35 +4,35 @@
 pub mod inner;
 
 ghost use Rattle.std.specs.Prelude.{◌≡◌};
-ghost use Rattle.reasons.specs.Reasons.{number_in};
-ghost use Rattle.ranges.specs.Ranges.{range_rule, said_found, LooksUp};
+ghost use Rattle.reasons.specs.Reasons.{number_in, said};
+ghost use Rattle.ranges.specs.Ranges.{range_rule, LooksUp};
 
 use reasons::Reason;
 
-// The table that holds the record, and where in it the record begins.
-#[derive(Clone, Copy)]
-pub enum Found {
+// The table that holds a record, and where in it the record begins.
+#[derive(Clone, Copy, Debug, PartialEq, Eq)]
+pub enum Place {
     Site(usize),
     Acquirer(usize),
-    Refused(Reason),
 }
 
 // Where the record of a PAN stands.
-pub fn find(site: &[u8], acquirer: &[u8], pan: &[u8]) -> Found
-    ensures { said_found result ≡ range_rule site.now acquirer.now pan.now }
+#[tactic(auto, unfolding(crate::specs::Ranges::range_rule))]
+pub fn find(site: &[u8], acquirer: &[u8], pan: &[u8]) -> Result<Place, Reason>
+    ensures { said result ≡ range_rule site.now acquirer.now pan.now }
 {
     if !inner::tables_ok(site, acquirer) {
-        return Found::Refused(Reason::BadTable);
+        return Err(Reason::BadTable);
     }
     let n = pan.len();
     if n < 13 {
-        return Found::Refused(Reason::BadCount);
+        return Err(Reason::BadCount);
     }
     if 19 < n {
-        return Found::Refused(Reason::BadCount);
+        return Err(Reason::BadCount);
     }
     if !text::all_digits(pan) {
-        return Found::Refused(Reason::BadByte);
+        return Err(Reason::BadByte);
     }
     inner::find_tested(site, acquirer, pan)
 }
@@ -42,9 +42,9 @@ pub fn look_up<'a>(site: &'a [u8], acquirer: &'a [u8], pan: &[u8]) -> &'a [u8]
     ensures { LooksUp site.entry acquirer.entry (range_rule site.now acquirer.now pan.now) result }
 {
     match find(site, acquirer, pan) {
-        Found::Site(at) => &site[at..at + 16],
-        Found::Acquirer(at) => &acquirer[at..at + 16],
-        Found::Refused(_) => &site[..0],
+        Ok(Place::Site(at)) => &site[at..at + 16],
+        Ok(Place::Acquirer(at)) => &acquirer[at..at + 16],
+        Err(_) => &site[..0],
     }
 }
 
@@ -53,8 +53,7 @@ pub fn look_up_number(site: &[u8], acquirer: &[u8], pan: &[u8]) -> u32
     ensures { result ≡ number_in (range_rule site.now acquirer.now pan.now) }
 {
     match find(site, acquirer, pan) {
-        Found::Site(_) => 0,
-        Found::Acquirer(_) => 0,
-        Found::Refused(r) => reasons::number(r),
+        Ok(_) => 0,
+        Err(r) => reasons::number(r),
     }
 }

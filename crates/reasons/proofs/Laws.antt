@@ -4,14 +4,12 @@ use mathlib.Core.Bool.{Bool, true, false}
 use mathlib.Core.Logic.{◌⊎◌, ◌↔◌, inl, inr, ⊎_elim}
 use Prim.Native.Nat.{ℕ}
 use native.Mathlib.Omega.{arith}
-use mathlib.Core.List.{◌∷◌}
+use mathlib.Core.List.{List, [], ◌∷◌}
 use lib.ListN.{get_or}
+use Rattle.std.specs.Prelude.{Result, Ok, Err}
+use Rattle.std.specs.Borrow.{Bor}
 use Rattle.text.specs.Bytes.{bytes_of}
-use Rattle.reasons.specs.Reasons.{number_of, words_of, Phrases, Outcome, gives, refuses, demand, after, number_in, and_then, said}
-use Rattle.reasons.specs.declared.Phrase.{Phrase}
-use Rattle.reasons.specs.declared.Tested.{Tested}
-use Rattle.reasons.specs.declared.Tested.TheVariants.{Passes, Refused}
-use Rattle.reasons.specs.Lines.{in_order}
+use Rattle.reasons.specs.Reasons.{number_of, words_of, Outcome, gives, refuses, demand, after, number_in, and_then, said}
 use Rattle.reasons.specs.declared.Reason.{Reason}
 use Rattle.reasons.specs.declared.Reason.TheVariants.{ShortOutput, BadCount, BadByte, WrongCheck, UnknownCountry, WrongLayout, BadBitCount}
 use Rattle.reasons.specs.declared.Reason.TheVariants.{NoStart, CutShort, WrongParity, LongTrack, WrongLrc, MarksAfter, BadTable}
@@ -70,6 +68,15 @@ module _ {A : Type 0} (t : Bool) (n : ℕ) (o : Outcome A) where
     ⊎_elim (λ h. stops h.0 ∙ ap {B = Outcome A} refuses (sym h.1)) (λ h. passes_on h.0 ∙ r.1 h.1),
   )
 
+in_order : List Reason
+in_order =
+    ShortOutput ∷ BadCount ∷ BadByte ∷ WrongCheck ∷ UnknownCountry
+    ∷ WrongLayout ∷ BadBitCount ∷ NoStart ∷ CutShort ∷ WrongParity
+    ∷ LongTrack ∷ WrongLrc ∷ MarksAfter ∷ BadTable ∷ NoRange
+    ∷ BadJournal ∷ ZeroAmount ∷ JournalFull ∷ SerialsUsedUp ∷ NoSerial
+    ∷ BadHotList ∷ ListedCard ∷ BadDate ∷ ExpiredCard
+    ∷ []
+
 -- the reason of a number
 reason_of : ℕ → Reason
 reason_of n = get_or (ShortOutput ∷ in_order) n ShortOutput
@@ -114,11 +121,11 @@ pub refuses_one : {A : Type 0} (a b : Reason) → ◌≡◌ {A = Outcome A} (ref
 refuses_one a b e = number_of_one a b (refused_number (number_of a) (number_of b) e)
 
 -- what is said tells the answer
-pub said_one : (r q : Tested) → said r ≡ said q → r ≡ q
-said_one Passes Passes e = refl
-said_one Passes (Refused b) e = gives_refuses tt (number_of b) e
-said_one (Refused a) Passes e = gives_refuses tt (number_of a) (sym e)
-said_one (Refused a) (Refused b) e = ap Refused (refuses_one a b e)
+pub said_one : {A : Type 0} (r q : Result A Reason) → said r ≡ said q → r ≡ q
+said_one (Ok x) (Ok y) e = let n : x ≡ y = cc in ap Ok n
+said_one (Ok x) (Err b) e = gives_refuses x (number_of b) e
+said_one (Err a) (Ok y) e = gives_refuses y (number_of a) (sym e)
+said_one (Err a) (Err b) e = ap Err (refuses_one a b e)
 
 -- what is not given is refused, with some number
 pub refused : (o : Outcome (Unit {0})) → (o ≡ gives tt → ⊥) → (n : ℕ) × (o ≡ refuses n)
@@ -176,11 +183,8 @@ made_of (refuses m) f n = (λ e. ap {B = Outcome _} refuses (refused_number m n 
 pub number_one : (r : Reason) (x y : ℕ) → x ≡ number_of r → y ≡ number_of r → x ≡ y
 number_one r x y a b = a ∙ sym b
 
-pub tested_number_one : (t : Tested) (x y : ℕ) → x ≡ number_in (said t) → y ≡ number_in (said t) → x ≡ y
+pub tested_number_one : (t : Result (Unit {0}) Reason) (x y : ℕ) → x ≡ number_in (said t) → y ≡ number_in (said t) → x ≡ y
 tested_number_one t x y a b = a ∙ sym b
 
-pub words_one : (r : Reason) (w v : Phrase) → Phrases (bytes_of (words_of r)) w → Phrases (bytes_of (words_of r)) v → w ≡ v
-words_one r w v a b =
-    let n : w.len ≡ v.len = a.1 ∙ sym b.1 in
-    let s : w.bytes ≡ v.bytes = a.2 ∙ sym b.2 in
-    λ i. record { bytes = s i; len = n i }
+pub words_one : (r : Reason) (w v : Bor (List ℕ)) → w.now ≡ bytes_of (words_of r) → v.now ≡ bytes_of (words_of r) → w.now ≡ v.now
+words_one r w v a b = a ∙ sym b

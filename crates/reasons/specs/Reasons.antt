@@ -1,15 +1,11 @@
 -- The numbered reasons, 1 to 20 of document 01 and from 21 on of document 02, and what a call says in the paper's terms.
-use Rattle.std.specs.Prelude.{ℕ, ◌≤◌, ◌≡◌, Bool, true, false, List, length, replicate}
+use Rattle.std.specs.Prelude.{ℕ, Bool, true, false, Result, Ok, Err}
 use Prim.Native.String.{String}
-use Rattle.text.specs.Numbers.{put}
 use Rattle.reasons.specs.declared.Reason.{Reason}
 use Rattle.reasons.specs.declared.Reason.TheVariants.{ShortOutput, BadCount, BadByte, WrongCheck, UnknownCountry, WrongLayout, BadBitCount}
 use Rattle.reasons.specs.declared.Reason.TheVariants.{NoStart, CutShort, WrongParity, LongTrack, WrongLrc, MarksAfter, BadTable}
 use Rattle.reasons.specs.declared.Reason.TheVariants.{NoRange, BadJournal, ZeroAmount, JournalFull, SerialsUsedUp, NoSerial}
 use Rattle.reasons.specs.declared.Reason.TheVariants.{BadHotList, ListedCard, BadDate, ExpiredCard}
-use Rattle.reasons.specs.declared.Phrase.{Phrase}
-use Rattle.reasons.specs.declared.Tested.{Tested}
-use Rattle.reasons.specs.declared.Tested.TheVariants.{Passes, Refused}
 
 -- the paper's number of each reason
 abbrev pub number_of : Reason → ℕ
@@ -65,10 +61,6 @@ words_of ListedCard = "card on the hot list"
 words_of BadDate = "date outside 2000 to 2099, or no real day"
 words_of ExpiredCard = "card expired"
 
--- w holds the text t: its length, and its bytes over 64 zeros
-abbrev pub Phrases : List ℕ → Phrase → Type 0
-Phrases t w = (w.len ≤ length w.bytes) × (w.len ≡ length t) × (w.bytes ≡ put (replicate 64 0) 0 t)
-
 -- what a call says: a value, or the number of a reason
 pub data Outcome (A : Type 0) : Type 0 where
   gives : A → Outcome A
@@ -89,10 +81,10 @@ abbrev pub number_in : {A : Type 0} → Outcome A → ℕ
 number_in (gives v) = 0
 number_in (refuses n) = n
 
--- what a test's answer says in the paper's terms
-abbrev pub said : Tested → Outcome (Unit {0})
-said Passes = gives tt
-said (Refused r) = refuses (number_of r)
+-- what an answer says in the paper's terms
+abbrev pub said : {A : Type 0} → Result A Reason → Outcome A
+said (Ok v) = gives v
+said (Err r) = refuses (number_of r)
 
 -- one call after another: the second goes on with the value of the first; where the first refuses, its number is the answer
 abbrev pub and_then : {A B : Type 0} → Outcome A → (A → Outcome B) → Outcome B

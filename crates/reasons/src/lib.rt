@@ -1,12 +1,11 @@
-// The numbered reasons, 1 to 20 of document 01 and from 21 on of document 02, their numbers and words; what a test answers.
+// The numbered reasons, 1 to 20 of document 01 and from 21 on of document 02, their numbers and words.
 #![tactic(auto)]
 
-ghost use Rattle.std.specs.Prelude.{◌≡◌, ◌+◌, ◌≤◌, length, drop};
+ghost use Rattle.std.specs.Prelude.{◌≡◌};
 ghost use Rattle.text.specs.Bytes.{bytes_of};
-ghost use Rattle.reasons.specs.Reasons.{number_of, number_in, said, words_of, Phrases};
-ghost use Rattle.reasons.specs.Lines.{line, lines_of, in_order};
+ghost use Rattle.reasons.specs.Reasons.{number_of, number_in, said, words_of};
 
-#[derive(Clone, Copy)]
+#[derive(Clone, Copy, Debug, PartialEq, Eq)]
 pub enum Reason {
     ShortOutput,
     BadCount,
@@ -32,13 +31,6 @@ pub enum Reason {
     ListedCard,
     BadDate,
     ExpiredCard,
-}
-
-// What a test answers: that the text passes, or why it is refused.
-#[derive(Clone, Copy)]
-pub enum Tested {
-    Passes,
-    Refused(Reason),
 }
 
 // The paper's number of a reason.
@@ -74,105 +66,43 @@ pub fn number(r: Reason) -> u32
 }
 
 // The number of a test's answer: 0 where the text passes.
-pub fn tested_number(t: Tested) -> u32
+pub fn tested_number(t: Result<(), Reason>) -> u32
     ensures { result ≡ number_in (said t) }
 {
     match t {
-        Tested::Passes => 0,
-        Tested::Refused(why) => number(why),
+        Ok(()) => 0,
+        Err(why) => number(why),
     }
-}
-
-// A phrase for people: the first `len` bytes, and zeros behind them.
-#[derive(Clone, Copy)]
-pub struct Phrase {
-    pub bytes: [u8; 64],
-    pub len: usize,
-}
-
-// A short text by value.
-fn told(text: &[u8]) -> Phrase
-    requires { length text.now ≤ 64 }
-    ensures { Phrases text.now result }
-{
-    let mut bytes = [0u8; 64];
-    text::put_at(&mut bytes, 0, text);
-    Phrase {
-        bytes,
-        len: text.len(),
-    }
-}
-
-// Those of reason n are line n, and line 0 is empty.
-fn table() -> [u8; 599]
-    ensures { result ≡ lines_of in_order }
-{
-    *b"
-lent output or scratch too short
-count of digits or characters outside its range
-a byte that isn't allowed
-check digits wrong
-country not listed
-layout wrong
-bit count over 4,096 or over 8 times the bytes lent
-no start sentinel
-track cut short
-parity wrong
-track too long
-LRC wrong
-marks after the LRC
-range table's byte length not a multiple of 16, or over 65,536
-no range fits
-journal not well formed
-amount 0
-journal full
-serials used up
-serial not there
-hot list not rising or too long, or PAN length or a number wrong
-card on the hot list
-date outside 2000 to 2099, or no real day
-card expired"
-}
-
-// Where line n begins; the text's end where there is none.
-fn line_start(text: &[u8], n: u32) -> usize
-    ensures { (result ≤ length text.now) × (line 0 (drop result text.now) ≡ line n text.now) }
-{
-    let mut left = n;
-    let mut at = 0;
-    while at < text.len() {
-        if left == 0 {
-            return at;
-        }
-        if text[at] == 10 {
-            left -= 1;
-        }
-        at += 1;
-    }
-    at
-}
-
-// Where the line that begins at `from` ends.
-fn line_end(text: &[u8], from: usize) -> usize
-    requires { from ≤ length text.now }
-    ensures { (result ≤ length text.now) × (result ≡ from + length (line 0 (drop from text.now))) }
-{
-    let mut at = from;
-    while at < text.len() {
-        if text[at] == 10 {
-            return at;
-        }
-        at += 1;
-    }
-    at
 }
 
 // A reason in words.
-pub fn words(r: Reason) -> Phrase
-    ensures { Phrases (bytes_of (words_of r)) result }
+pub fn words(r: Reason) -> &'static str
+    ensures { result.now ≡ bytes_of (words_of r) }
 {
-    let lines = table();
-    let from = line_start(&lines, number(r));
-    let end = line_end(&lines, from);
-    told(&lines[from..end])
+    match r {
+        Reason::ShortOutput => "lent output or scratch too short",
+        Reason::BadCount => "count of digits or characters outside its range",
+        Reason::BadByte => "a byte that isn't allowed",
+        Reason::WrongCheck => "check digits wrong",
+        Reason::UnknownCountry => "country not listed",
+        Reason::WrongLayout => "layout wrong",
+        Reason::BadBitCount => "bit count over 4,096 or over 8 times the bytes lent",
+        Reason::NoStart => "no start sentinel",
+        Reason::CutShort => "track cut short",
+        Reason::WrongParity => "parity wrong",
+        Reason::LongTrack => "track too long",
+        Reason::WrongLrc => "LRC wrong",
+        Reason::MarksAfter => "marks after the LRC",
+        Reason::BadTable => "range table's byte length not a multiple of 16, or over 65,536",
+        Reason::NoRange => "no range fits",
+        Reason::BadJournal => "journal not well formed",
+        Reason::ZeroAmount => "amount 0",
+        Reason::JournalFull => "journal full",
+        Reason::SerialsUsedUp => "serials used up",
+        Reason::NoSerial => "serial not there",
+        Reason::BadHotList => "hot list not rising or too long, or PAN length or a number wrong",
+        Reason::ListedCard => "card on the hot list",
+        Reason::BadDate => "date outside 2000 to 2099, or no real day",
+        Reason::ExpiredCard => "card expired",
+    }
 }

@@ -140,7 +140,6 @@ module _ (j k : List ℕ) (w : SameButClocks j k) (i : ℕ) where
 -- ---- what the slots come to goes by no clock
 
 counted_but : (c : Counts) (s : Slot) → counted c (but_clock s) ≡ counted c s
-unfolding counted
 counted_but c Free = refl
 counted_but c (Held f) = refl
 counted_but c (Released f) = refl

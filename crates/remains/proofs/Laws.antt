@@ -1,26 +1,25 @@
 -- What is promised of the slots, over any bytes of a journal's length.
 use Prim.Native.Nat.{ℕ, ◌≤◌, ◌<◌, ◌+◌, ◌*◌, ◌/◌}
-use mathlib.Core.Path.{◌≡◌, sym, ap, ◌∙◌}
+use mathlib.Core.Path.{◌≡◌, sym, ◌∙◌}
 use mathlib.Core.Bool.{true}
 use mathlib.Core.List.{List}
 use native.Mathlib.Omega.{arith}
 use native.Mathlib.Decide.{dec_lt}
+use Rattle.std.proofs.Common.{Result}
 use lib.Dec.{ltb}
 use lib.ListN.{length, get_or}
 use Rattle.text.specs.Numbers.{put}
 use Rattle.text.proofs.Put.{put_before, put_after, length_put, part_same}
-use Rattle.reasons.specs.Reasons.{gives, demand, number_of}
-use Rattle.reasons.proofs.Laws.{gives_refuses, refuses_one}
+use Rattle.reasons.specs.Reasons.{gives, demand, said}
+use Rattle.reasons.specs.declared.Reason.{Reason}
+use Rattle.reasons.proofs.Laws.{said_one}
 use Rattle.slots.specs.Journal.{slots_of, sized}
 use Rattle.slots.proofs.Form.{is_sized}
 use Rattle.surveys.specs.Survey.{SlotIs, free, held, released, damaged}
-use Rattle.remains.specs.Slot.{told_of, told_at, look_rule, said_looked, survey_byte}
+use Rattle.remains.specs.Slot.{told_of, told_at, look_rule, survey_byte}
 use Rattle.remains.specs.declared.Slot.{Slot}
-use Rattle.remains.specs.Count.{count_rule, said_counted}
-use Rattle.remains.specs.declared.Counted.{Counted}
-use Rattle.remains.specs.declared.Counted.TheVariants as counting
-use Rattle.remains.specs.declared.Looked.{Looked}
-use Rattle.remains.specs.declared.Looked.TheVariants as looked
+use Rattle.remains.specs.declared.Counts.{Counts}
+use Rattle.remains.specs.Count.{count_rule}
 use Rattle.remains.proofs.Slots.{Stands, stands_free, stands_held, stands_released, stands_damaged, stands}
 
 -- a slot says of itself what the survey says of it: free, held, released, or damaged where it is neither all zero nor a good record that belongs there
@@ -52,22 +51,9 @@ others_stay j vs i k e h ne = own_bytes j (put j (32 * i) vs) k (length_put j vs
 
 -- ---- one outcome
 
--- what is said tells the answer
-looked_one : (r q : Looked) → said_looked r ≡ said_looked q → r ≡ q
-looked_one (looked.Says s) (looked.Says t) e = cc
-looked_one (looked.Says s) (looked.Refused b) e = gives_refuses s (number_of b) e
-looked_one (looked.Refused a) (looked.Says t) e = gives_refuses t (number_of a) (sym e)
-looked_one (looked.Refused a) (looked.Refused b) e = ap looked.Refused (refuses_one a b e)
-
-counted_one : (r q : Counted) → said_counted r ≡ said_counted q → r ≡ q
-counted_one (counting.Of c) (counting.Of d) e = cc
-counted_one (counting.Of c) (counting.Refused b) e = gives_refuses c (number_of b) e
-counted_one (counting.Refused a) (counting.Of d) e = gives_refuses d (number_of a) (sym e)
-counted_one (counting.Refused a) (counting.Refused b) e = ap counting.Refused (refuses_one a b e)
-
 -- look and count: any two outcomes that the promise allows are equal
-pub one_look : (j : List ℕ) (k : ℕ) (r q : Looked) → said_looked r ≡ look_rule j k → said_looked q ≡ look_rule j k → r ≡ q
-one_look j k r q a b = looked_one r q (a ∙ sym b)
+pub one_look : (j : List ℕ) (k : ℕ) (r q : Result Slot Reason) → said r ≡ look_rule j k → said q ≡ look_rule j k → r ≡ q
+one_look j k r q a b = said_one r q (a ∙ sym b)
 
-pub one_count : (j : List ℕ) (r q : Counted) → said_counted r ≡ count_rule j → said_counted q ≡ count_rule j → r ≡ q
-one_count j r q a b = counted_one r q (a ∙ sym b)
+pub one_count : (j : List ℕ) (r q : Result Counts Reason) → said r ≡ count_rule j → said q ≡ count_rule j → r ≡ q
+one_count j r q a b = said_one r q (a ∙ sym b)

@@ -1,6 +1,6 @@
 -- The rules, outcome by outcome.
 use Prim.Native.Nat.{ℕ, ◌+◌, ◌≤◌, ◌<◌}
-use mathlib.Core.Path.{◌≡◌, refl, sym, ap}
+use mathlib.Core.Path.{◌≡◌, sym, ap}
 use mathlib.Core.Bool.{true, false}
 use mathlib.Core.List.{List}
 use native.Mathlib.Numerals.{add-one}
@@ -40,9 +40,9 @@ module _ (n k : ℕ) (r : List ℕ) where
 
 -- ---- what the slots come to
 
-pub count_none : (slot : ℕ → Slot) → record { held = 0; sum = 0; released = 0; damaged = 0 } ≡ count_of slot 0
+pub count_none : (slot : ℕ → Slot) (c : Counts) → c.held ≡ 0 → c.sum ≡ 0 → c.released ≡ 0 → c.damaged ≡ 0 → c ≡ count_of slot 0
 unfolding count_of
-count_none slot = refl
+count_none slot c h s r d = λ i. record { held = h i; sum = s i; released = r i; damaged = d i }
 
 pub count_more : (slot : ℕ → Slot) (m : ℕ) (c : Counts) → c ≡ count_of slot m → counted c (slot m) ≡ count_of slot (m + 1)
 unfolding count_of

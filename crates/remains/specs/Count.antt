@@ -1,15 +1,13 @@
 -- What the slots of a journal come to, by what each of them says (house; beyond document 01).
 use Rattle.std.specs.Prelude.{ℕ, zero, suc, ◌+◌, List, length}
-use Rattle.reasons.specs.Reasons.{Outcome, gives, refuses, demand, number_of}
+use Rattle.reasons.specs.Reasons.{Outcome, gives, demand}
 use Rattle.slots.specs.Journal.{slots_of, sized}
 use Rattle.remains.specs.Slot.{told_at}
 use Rattle.remains.specs.declared.Slot.{Slot}
 use Rattle.remains.specs.declared.Slot.TheVariants.{Free, Held, Released, Damaged}
 use Rattle.remains.specs.declared.Counts.{Counts}
-use Rattle.remains.specs.declared.Counted.{Counted}
-use Rattle.remains.specs.declared.Counted.TheVariants as counting
 
-unfoldable pub counted : Counts → Slot → Counts
+abbrev pub counted : Counts → Slot → Counts
 counted c Free = c
 counted c (Held f) = record { held = c.held + 1; sum = c.sum + f.amount; released = c.released; damaged = c.damaged }
 counted c (Released f) = record { held = c.held; sum = c.sum; released = c.released + 1; damaged = c.damaged }
@@ -22,7 +20,3 @@ count_of slot (suc m) = counted (count_of slot m) (slot m)
 
 unfoldable pub count_rule : List ℕ → Outcome Counts
 count_rule j = demand (sized (length j)) 16 (gives (count_of (told_at j) (slots_of j)))
-
-abbrev pub said_counted : Counted → Outcome Counts
-said_counted (counting.Of c) = gives c
-said_counted (counting.Refused r) = refuses (number_of r)

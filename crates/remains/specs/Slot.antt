@@ -3,15 +3,13 @@
 use Rattle.std.specs.Prelude.{ℕ, ◌+◌, ◌*◌, Bool, cond, ◌&&◌, List, eqb, ltb, length, take, drop}
 use Rattle.text.specs.Bytes.{every, all_digits}
 use Rattle.text.specs.Numbers.{u16_at, u32_at}
-use Rattle.reasons.specs.Reasons.{Outcome, gives, refuses, demand, number_of}
+use Rattle.reasons.specs.Reasons.{Outcome, gives, demand}
 use Rattle.slots.specs.Record.{is_held, is_record, length_fits, kept, serial_at, amount_at, length_at, state_at}
 use Rattle.slots.specs.Journal.{slots_of, sized, place}
 use Rattle.remains.specs.declared.Fields.{Fields}
 use Rattle.remains.specs.declared.Tests.{Tests}
 use Rattle.remains.specs.declared.Slot.{Slot}
 use Rattle.remains.specs.declared.Slot.TheVariants.{Free, Held, Released, Damaged}
-use Rattle.remains.specs.declared.Looked.{Looked}
-use Rattle.remains.specs.declared.Looked.TheVariants as looked
 
 -- the 32 bytes of slot k
 abbrev pub slot_at : List ℕ → ℕ → List ℕ
@@ -63,10 +61,6 @@ look_rule j k =
     demand (sized (length j)) 16
     (demand (ltb k (slots_of j)) 20
     (gives (told_at j k)))
-
-abbrev pub said_looked : Looked → Outcome Slot
-said_looked (looked.Says s) = gives s
-said_looked (looked.Refused r) = refuses (number_of r)
 
 -- the survey's byte for a slot
 abbrev pub survey_byte : Slot → ℕ

@@ -1,10 +1,11 @@
 // A slot's fields and tests, what they say, and what the slots come to. For the crates above: all of it is inner.
-ghost use Rattle.std.specs.Prelude.{◌≡◌, true, ◌+◌, ◌*◌, ◌≤◌, ◌<◌, length};
+ghost use Rattle.std.specs.Prelude.{◌≡◌, true, false, MatchResult, ◌+◌, ◌*◌, ◌≤◌, ◌<◌, length};
 ghost use Rattle.slots.specs.Journal.{slots_of, sized};
 ghost use Rattle.remains.specs.Slot.{fields_of, tests_of, passes, told_of, told_at};
 ghost use Rattle.remains.specs.Count.{counted, count_of};
 
 use crate::{Counts, Fields, Slot, Tests};
+use reasons::Reason;
 
 // ---- one slot
 
@@ -65,64 +66,79 @@ fn told_of(r: &[u8], n: usize, k: usize) -> Slot
     Slot::Released(f)
 }
 
-// What slot k of a journal says.
-pub fn told_at(j: &[u8], k: usize) -> Slot
-    requires { (sized (length j.now) ≡ true) × (k < slots_of j.now) }
-    ensures { result ≡ told_at j.now k }
-{
-    let n = j.len() / 32;
-    let at = 32 * k;
-    let end = at + 32;
-    told_of(&j[at..end], n, k)
-}
-
 // ---- what the slots come to
 
 // With the slot s counted in.
 fn with_slot(c: Counts, s: Slot) -> Counts
-    requires { (c.held < 2048) × (c.released < 2048) × (c.damaged < 2048) × (c.sum ≤ 4294967295 * c.held) }
-    ensures { (result ≡ counted c s) × (result.sum ≤ 4294967295 * result.held)
-        × (result.held ≤ c.held + 1) × (result.released ≤ c.released + 1) × (result.damaged ≤ c.damaged + 1) }
+    requires few { (c.held < 2048) × (c.released < 2048) × (c.damaged < 2048) }
+    requires small { c.sum ≤ 4294967295 * c.held }
+    ensures says { result ≡ counted c s }
+    ensures more { (result.held ≤ c.held + 1) × (result.released ≤ c.released + 1) × (result.damaged ≤ c.damaged + 1) }
+    ensures small { result.sum ≤ 4294967295 * result.held }
 {
     match s {
         Slot::Free => c,
         Slot::Held(f) => Counts {
             held: c.held + 1,
-            sum: c.sum + f.amount as u64,
-            released: c.released,
-            damaged: c.damaged,
+            sum: c.sum + u64::from(f.amount),
+            ..c
         },
         Slot::Released(_) => Counts {
-            held: c.held,
-            sum: c.sum,
             released: c.released + 1,
-            damaged: c.damaged,
+            ..c
         },
         Slot::Damaged(_, _) => Counts {
-            held: c.held,
-            sum: c.sum,
-            released: c.released,
             damaged: c.damaged + 1,
+            ..c
         },
     }
 }
 
-// What the slots of a journal come to.
-pub fn counts(j: &[u8]) -> Counts
-    requires { sized (length j.now) ≡ true }
-    ensures { result ≡ count_of (told_at j.now) (slots_of j.now) }
-{
-    let n = j.len() / 32;
-    let mut c = Counts {
-        held: 0,
-        sum: 0,
-        released: 0,
-        damaged: 0,
-    };
-    let mut k = 0;
-    while k < n {
-        c = with_slot(c, told_at(j, k));
-        k += 1;
+// ---- the slots of a journal
+
+// Any bytes of a journal's length.
+#[derive(Clone, Copy)]
+pub struct Slots<'a> {
+    pub bytes: &'a [u8],
+    pub ghost sized: { sized (length bytes.now) ≡ true },
+}
+
+impl<'a> Slots<'a> {
+    pub fn of(j: &'a [u8]) -> Result<Slots<'a>, Reason>
+        ensures { MatchResult result (λ s. (sized (length j.now) ≡ true) × (s.bytes.now ≡ j.now))
+            (λ why. (sized (length j.now) ≡ false) × (why ≡ Reason.BadJournal)) }
+    {
+        if !slots::is_sized(j.len()) {
+            return Err(Reason::BadJournal);
+        }
+        Ok(Slots { bytes: j })
     }
-    c
+
+    // How many there are.
+    pub fn count(self) -> usize
+        ensures { result ≡ slots_of self.entry.bytes.now }
+    {
+        self.bytes.len() / 32
+    }
+
+    // What slot k says.
+    pub fn at(self, k: usize) -> Slot
+        requires { k < slots_of self.bytes.now }
+        ensures { result ≡ told_at self.entry.bytes.now k }
+    {
+        let at = 32 * k;
+        let end = at + 32;
+        told_of(&self.bytes[at..end], self.count(), k)
+    }
+
+    // What they come to.
+    pub fn counts(self) -> Counts
+        ensures { result ≡ count_of (told_at self.entry.bytes.now) (slots_of self.entry.bytes.now) }
+    {
+        let mut c = Counts::default();
+        for k in 0..self.count() {
+            c = with_slot(c, self.at(k));
+        }
+        c
+    }
 }

@@ -1,13 +1,15 @@
 // What each slot of any bytes of a journal's length says, whatever stands in the others, and what the slots come to.
 #![tactic(auto)]
 
+use inner::Slots;
 use reasons::Reason;
 
 pub mod inner;
 
 ghost use Rattle.std.specs.Prelude.{◌≡◌};
-ghost use Rattle.remains.specs.Slot.{look_rule, said_looked};
-ghost use Rattle.remains.specs.Count.{count_rule, said_counted};
+ghost use Rattle.reasons.specs.Reasons.{said};
+ghost use Rattle.remains.specs.Slot.{look_rule};
+ghost use Rattle.remains.specs.Count.{count_rule};
 
 // The numbers that stand in a slot, damaged or not.
 #[derive(Clone, Copy)]
@@ -42,14 +44,8 @@ pub enum Slot {
     Damaged(Fields, Tests),
 }
 
-#[derive(Clone, Copy)]
-pub enum Looked {
-    Says(Slot),
-    Refused(Reason),
-}
-
 // How many slots are held, released and damaged, and the sum of the held amounts.
-#[derive(Clone, Copy)]
+#[derive(Clone, Copy, Default)]
 pub struct Counts {
     pub held: u32,
     pub sum: u64,
@@ -57,31 +53,21 @@ pub struct Counts {
     pub damaged: u32,
 }
 
-#[derive(Clone, Copy)]
-pub enum Counted {
-    Of(Counts),
-    Refused(Reason),
-}
-
 // What slot k says.
-pub fn look(j: &[u8], k: usize) -> Looked
-    ensures { said_looked result ≡ look_rule j.now k }
+pub fn look(j: &[u8], k: usize) -> Result<Slot, Reason>
+    ensures { said result ≡ look_rule j.now k }
 {
-    if !slots::is_sized(j.len()) {
-        return Looked::Refused(Reason::BadJournal);
+    let slots = Slots::of(j)?;
+    if slots.count() <= k {
+        return Err(Reason::NoSerial);
     }
-    if j.len() / 32 <= k {
-        return Looked::Refused(Reason::NoSerial);
-    }
-    Looked::Says(inner::told_at(j, k))
+    Ok(slots.at(k))
 }
 
 // What the slots come to.
-pub fn count(j: &[u8]) -> Counted
-    ensures { said_counted result ≡ count_rule j.now }
+pub fn count(j: &[u8]) -> Result<Counts, Reason>
+    ensures { said result ≡ count_rule j.now }
 {
-    if !slots::is_sized(j.len()) {
-        return Counted::Refused(Reason::BadJournal);
-    }
-    Counted::Of(inner::counts(j))
+    let slots = Slots::of(j)?;
+    Ok(slots.counts())
 }

@@ -7,7 +7,8 @@ use Rattle.payer.specs.Payer.{Terms}
 use Rattle.history.specs.History.{Demand3}
 use Rattle.history.proofs.Laws.{demand_3}
 use Rattle.plays.specs.declared.Totals.{Totals}
-use Rattle.replay.specs.declared.Replayed.{Replayed}
+use Rattle.plays.specs.declared.Unplayed.{Unplayed}
+use Rattle.std.proofs.Common.{Result}
 use Rattle.plays.specs.Script.{script_rule}
 use Rattle.replay.specs.Replay.{PlaysAll, Replays}
 use Rattle.replay.proofs.One.{one_replay}
@@ -19,6 +20,6 @@ pub replay_keeps : (n : ℕ) → 1 ≤ n → n ≤ 2048 → (s : List ℕ) (term
 replay_keeps n l h s terms t r u k w = demand_3 n l h w.done k (plays_run w.plays)
 
 -- any two outcomes that replay allows are equal: answer, scratch and journal
-pub replay_one : (s : List ℕ) (terms : Terms) (t j : List ℕ) (r q : Replayed) (u v k l : List ℕ)
+pub replay_one : (s : List ℕ) (terms : Terms) (t j : List ℕ) (r q : Result Totals Unplayed) (u v k l : List ℕ)
     → Replays s terms t j (script_rule s) r u k → Replays s terms t j (script_rule s) q v l → (r ≡ q) × (u ≡ v) × (k ≡ l)
 replay_one s terms t j = one_replay s terms t j (script_rule s)

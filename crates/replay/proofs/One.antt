@@ -7,8 +7,9 @@ use Rattle.payer.specs.Payer.{Terms}
 use Rattle.history.specs.History.{Call, AnswerTo, Does, Done}
 use Rattle.history.proofs.One.{one_outcome}
 use Rattle.plays.proofs.Sums.{totals_one}
-use Rattle.replay.specs.declared.Replayed.{Replayed}
-use Rattle.replay.specs.declared.Replayed.TheVariants.{Played}
+use Rattle.std.proofs.Common.{Result, Ok}
+use Rattle.plays.specs.declared.Totals.{Totals}
+use Rattle.plays.specs.declared.Unplayed.{Unplayed}
 use Rattle.plays.specs.Script.{scratch_left, TotalsOf}
 use Rattle.replay.specs.Replay.{Plays, no_record, one_record, Replays, played, not_whole, too_long}
 
@@ -30,10 +31,10 @@ plays_one {s} {terms} {t} {j} {u} {k} {v} {l} (one_record {i = i} {m = m} {ds = 
     let r = plays_one (subst (λ (y : Done). Plays s terms (i + 1) m (scratch_left y.call y.answer t) y.after ds u k) de p) q in
     ((λ n. de n ∷ r.0 n), r.1, r.2)
 
-pub one_replay : (s : List ℕ) (terms : Terms) (t j : List ℕ) (o : Outcome (Unit {0})) (r q : Replayed) (u v k l : List ℕ)
+pub one_replay : (s : List ℕ) (terms : Terms) (t j : List ℕ) (o : Outcome (Unit {0})) (r q : Result Totals Unplayed) (u v k l : List ℕ)
     → Replays s terms t j o r u k → Replays s terms t j o q v l → (r ≡ q) × (u ≡ v) × (k ≡ l)
 one_replay s terms t j o r q u v k l (played {r = x} a) (played {r = y} b) =
     let w = plays_one a.plays b.plays in
-    (ap Played (totals_one b.done x y (subst (λ (ds : List Done). TotalsOf ds x) w.0 a.totals) b.totals), w.1, w.2)
+    (ap Ok (totals_one b.done x y (subst (λ (ds : List Done). TotalsOf ds x) w.0 a.totals) b.totals), w.1, w.2)
 one_replay s terms t j o r q u v k l not_whole not_whole = (refl, refl, refl)
 one_replay s terms t j o r q u v k l too_long too_long = (refl, refl, refl)

@@ -1,5 +1,6 @@
 -- The records of a script one after another, and what they keep.
-use Prim.Native.Nat.{ℕ, suc, ◌≤◌, ◌<◌, ◌+◌, ◌-◌, ◌*◌, ◌/◌, ◌%◌}
+use Rattle.std.proofs.Common.{Some}
+use Prim.Native.Nat.{ℕ, suc, ◌≤◌, ◌<◌, ◌+◌, ◌-◌, ◌*◌, ◌/◌}
 use mathlib.Core.Path.{◌≡◌, refl, sym, ap, ◌∙◌, subst, subst⁻¹}
 use mathlib.Core.List.{List, [], ◌∷◌, ◌++◌, map}
 use native.Mathlib.Omega.{arith}
@@ -7,19 +8,21 @@ use native.Mathlib.Decide.{dec_le}
 use lib.ListN.{get_or, length, length-append, length-map}
 use Rattle.text.specs.Numbers.{u32_at}
 use Rattle.slots.specs.Journal.{Formed, NewestIs, slots_of, place}
-use Rattle.slots.specs.declared.Newest.TheVariants.{Is}
 use Rattle.held.specs.Held.{held_list, sum_of}
 use Rattle.held.proofs.Lists.{held_at_most, sum-append}
 use Rattle.plays.proofs.Sums.{totals_append, bounded_none, bounded_more, sum}
-use Rattle.plays.proofs.Records.{broken, too_many, whole}
 use Rattle.payer.specs.Payer.{Terms}
-use Rattle.history.specs.History.{Done, Run, no_more, next, record_of, takings}
+use Rattle.history.specs.History.{Call, Done, Run, no_more, next, record_of, takings}
 use Rattle.history.specs.History.{booked, freed_count, freed_sum}
 use Rattle.history.proofs.Account.{Open, account}
 use Rattle.history.proofs.Demand.{sum_records}
 use Rattle.plays.specs.declared.Totals.{Totals}
-use Rattle.replay.specs.declared.Replayed.TheVariants.{Played, NotWhole, TooLong}
-use Rattle.plays.specs.Script.{clock_at, call_at, script_rule, refused_count, skipped_count, TotalsOf, Nothing, Bounded, PlaysOne, Adds}
+use Rattle.std.proofs.Common.{Ok, Err}
+use Rattle.plays.specs.declared.Unplayed.{Unplayed}
+use Rattle.plays.specs.declared.Unplayed.TheVariants.{NotWhole, TooLong}
+use Rattle.plays.proofs.Cuts.{cut_of, call_same, clock_same}
+use Rattle.reasons.specs.Reasons.{gives}
+use Rattle.plays.specs.Script.{clock_at, call_at, script_rule, Cut, refused_count, skipped_count, TotalsOf, Nothing, Bounded, PlaysOne, Adds}
 use Rattle.replay.specs.Replay.{Plays, no_record, one_record, PlaysAll, Replays, played, not_whole, too_long, Conserved}
 
 -- ---- one record after another
@@ -55,10 +58,19 @@ going_start s terms t j n r z =
           );
     }
 
+-- a record that is cut from the script plays what stands at its place
+cut_plays : (s : List ℕ) (terms : Terms) (at : ℕ) (u k : List ℕ) (x : Totals) (v l : List ℕ) → {c : List ℕ} → c ≡ cut_of s at
+    → PlaysOne (call_at c terms u 0) (clock_at c 0) u k x v l → PlaysOne (call_at s terms u at) (clock_at s at) u k x v l
+cut_plays s terms at u k x v l e p =
+    subst (λ (t : ℕ). PlaysOne (call_at s terms u at) t u k x v l) (clock_same s at)
+    (subst (λ (d : Call). PlaysOne d (clock_at (cut_of s at) 0) u k x v l) (call_same s at terms u)
+    (subst (λ (r : List ℕ). PlaysOne (call_at r terms u 0) (clock_at r 0) u k x v l) e p))
+
 pub going_turn : (s : List ℕ) (terms : Terms) (t j : List ℕ) (n i : ℕ) (u k u' k' : List ℕ) (r x r' : Totals) → Going s terms t j n i u k r → i < n
-    → PlaysOne (call_at s terms u (128 * i)) (clock_at s (128 * i)) u k x u' k' → Adds r x r' → length u' ≡ length u → length k' ≡ length k
+    → {c : List ℕ} → c ≡ cut_of s (128 * i) → PlaysOne (call_at c terms u 0) (clock_at c 0) u k x u' k' → Adds r x r' → length u' ≡ length u → length k' ≡ length k
     → Going s terms t j n (i + 1) u' k' r'
-going_turn s terms t j n i u k u' k' r x r' g h p a eu ek =
+going_turn s terms t j n i u k u' k' r x r' g h {c} e q a eu ek =
+    let p : PlaysOne (call_at s terms u (128 * i)) (clock_at s (128 * i)) u k x u' k' = cut_plays s terms (128 * i) u k x u' k' e q in
     record {
       scratch_long = eu ∙ g.scratch_long;
       journal_long = ek ∙ g.journal_long;
@@ -97,15 +109,13 @@ going_done s terms t j i u k r g h =
 -- ---- what replay says
 
 module _ (s : List ℕ) (terms : Terms) (t j : List ℕ) where
-  pub rule_not_whole : (length s % 128 ≡ 0 → ⊥) → Replays s terms t j (script_rule s) NotWhole t j
-  rule_not_whole h = subst⁻¹ (λ o. Replays s terms t j o NotWhole t j) (broken s h) not_whole
+  pub rule_unplayed : (x : Unplayed) → Cut s (Err x) → Replays s terms t j (script_rule s) (Err x) t j
+  rule_unplayed NotWhole e = subst⁻¹ (λ o. Replays s terms t j o (Err NotWhole) t j) e not_whole
+  rule_unplayed TooLong e = subst⁻¹ (λ o. Replays s terms t j o (Err TooLong) t j) e too_long
 
-  pub rule_too_long : length s % 128 ≡ 0 → 1048576 < length s / 128 → Replays s terms t j (script_rule s) TooLong t j
-  rule_too_long e h = subst⁻¹ (λ o. Replays s terms t j o TooLong t j) (too_many s e h) too_long
-
-  pub rule_played : (r : Totals) (u k : List ℕ) → length s % 128 ≡ 0 → length s / 128 ≤ 1048576 → PlaysAll s terms t j r u k
-      → Replays s terms t j (script_rule s) (Played r) u k
-  rule_played r u k e h w = subst⁻¹ (λ o. Replays s terms t j o (Played r) u k) (whole s e h) (played w)
+  pub rule_played : (r : Totals) (u k : List ℕ) → script_rule s ≡ gives tt → PlaysAll s terms t j r u k
+      → Replays s terms t j (script_rule s) (Ok r) u k
+  rule_played r u k e w = subst⁻¹ (λ o. Replays s terms t j o (Ok r) u k) e (played w)
 
 -- ---- what was held and what was booked is what was released and what is held
 
@@ -127,7 +137,7 @@ newest-fits j b bytes f = go (dec_le b 0)
         omega (arith, g, bytes at, bytes (at + 1), bytes (at + 2), bytes (at + 3))
 
 pub conserved : (s : List ℕ) (terms : Terms) (t j : List ℕ) (r : Totals) (u k : List ℕ) → ((i : ℕ) → get_or j i 0 < 256) → PlaysAll s terms t j r u k
-    → (b : ℕ) → NewestIs j (Is b) → Conserved b j r k
+    → (b : ℕ) → NewestIs j (Some b) → Conserved b j r k
 conserved s terms t j r u k bytes w b f =
     let n : ℕ = slots_of j in
     let most : length (held_list j b) ≤ b - (b - n) = held_at_most j n (b - n) (b - (b - n)) in
@@ -145,7 +155,7 @@ conserved s terms t j r u k bytes w b f =
     sym (sum-append a.gone held) ∙ ap sum_of whole ∙ sum-append (held_list j b) _
     ∙ ap (λ (x : ℕ). sum_of (held_list j b) + x) (sum_records (booked w.done) a.small) in
     record {
-      newest = subst (λ (x : ℕ). NewestIs k (Is x)) e a.newest;
+      newest = subst (λ (x : ℕ). NewestIs k (Some x)) e a.newest;
       counts = omega (arith, counts, a.counted, v.booked_is, v.released_is);
       sums = omega (arith, sums, a.summed, v.takings_is, v.remitted_is);
     }

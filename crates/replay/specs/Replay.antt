@@ -1,15 +1,14 @@
 -- The calls of a script, one after another, and what replaying it comes to.
-use Rattle.std.specs.Prelude.{ℕ, suc, ◌+◌, ◌*◌, ◌/◌, ◌≡◌, List, [], ◌∷◌, length}
+use Rattle.std.specs.Prelude.{ℕ, suc, ◌+◌, ◌*◌, ◌/◌, ◌≡◌, List, [], ◌∷◌, length, Result, Ok, Err, Some}
 use Rattle.reasons.specs.Reasons.{Outcome, gives, refuses}
 use Rattle.slots.specs.Journal.{NewestIs}
-use Rattle.slots.specs.declared.Newest.TheVariants.{Is}
 use Rattle.held.specs.Held.{held_list, sum_of}
 use Rattle.payer.specs.Payer.{Terms}
 use Rattle.history.specs.History.{Does, Done}
 use Rattle.plays.specs.Script.{clock_at, call_at, scratch_left, TotalsOf}
 use Rattle.plays.specs.declared.Totals.{Totals}
-use Rattle.replay.specs.declared.Replayed.{Replayed}
-use Rattle.replay.specs.declared.Replayed.TheVariants.{Played, NotWhole, TooLong}
+use Rattle.plays.specs.declared.Unplayed.{Unplayed}
+use Rattle.plays.specs.declared.Unplayed.TheVariants.{NotWhole, TooLong}
 
 -- the m records from number i on, played on the scratch t and the journal j, are the calls ds and leave the scratch u and the journal k
 pub data Plays (s : List ℕ) (terms : Terms) : ℕ → ℕ → List ℕ → List ℕ → List Done → List ℕ → List ℕ → Type 0 where
@@ -27,18 +26,17 @@ pub record PlaysAll (s : List ℕ) (terms : Terms) (t j : List ℕ) (r : Totals)
   pub totals : TotalsOf done r
 
 -- what replaying a script allows; a refusal changes nothing
-pub data Replays (s : List ℕ) (terms : Terms) (t j : List ℕ) : Outcome (Unit {0}) → Replayed → List ℕ → List ℕ → Type 0 where
-  played : {r : Totals} {u k : List ℕ} → PlaysAll s terms t j r u k → Replays s terms t j (gives tt) (Played r) u k
-  not_whole : Replays s terms t j (refuses 6) NotWhole t j
-  too_long : Replays s terms t j (refuses 99) TooLong t j
+pub data Replays (s : List ℕ) (terms : Terms) (t j : List ℕ) : Outcome (Unit {0}) → Result Totals Unplayed → List ℕ → List ℕ → Type 0 where
+  played : {r : Totals} {u k : List ℕ} → PlaysAll s terms t j r u k → Replays s terms t j (gives tt) (Ok r) u k
+  not_whole : Replays s terms t j (refuses 6) (Err NotWhole) t j
+  too_long : Replays s terms t j (refuses 99) (Err TooLong) t j
 
 -- held before + booked = held after + released, in number and in amount, of a journal whose newest serial was b
 pub record Conserved (b : ℕ) (j : List ℕ) (r : Totals) (k : List ℕ) : Type 0 where
-  pub newest : NewestIs k (Is (b + r.booked))
+  pub newest : NewestIs k (Some (b + r.booked))
   pub counts : length (held_list j b) + r.booked ≡ length (held_list k (b + r.booked)) + r.released
   pub sums : sum_of (held_list j b) + r.takings ≡ sum_of (held_list k (b + r.booked)) + r.remitted
 
-abbrev pub Conserves : ℕ → List ℕ → Replayed → List ℕ → Type 0
-Conserves b j (Played r) k = Conserved b j r k
-Conserves b j NotWhole k = k ≡ j
-Conserves b j TooLong k = k ≡ j
+abbrev pub Conserves : ℕ → List ℕ → Result Totals Unplayed → List ℕ → Type 0
+Conserves b j (Ok r) k = Conserved b j r k
+Conserves b j (Err x) k = k ≡ j

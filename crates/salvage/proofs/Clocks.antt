@@ -44,7 +44,7 @@ module _ (j k : List ℕ) (w : SameButClocks j k) where
   unfolding agree_rule
   clock_agree =
       let o : oldest_of j (newest_of j) ≡ oldest_of k (newest_of k) = oldest_same (newest_of j) ∙ ap (oldest_of k) newest_same in
-      λ x. demand (sized (w.size x)) 16 (gives (newest_same x, o x))
+      λ x. demand (sized (w.size x)) 16 (gives (record { newest = newest_same x; oldest = o x }))
 
   -- the same is wrong with each slot
   pub clock_judge : (i b h : ℕ) → judge_rule j i b h ≡ judge_rule k i b h

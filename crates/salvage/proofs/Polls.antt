@@ -11,30 +11,29 @@ use borrow.Author.Tests.{ltb-true, leb-true, lt-ltb, le-leb}
 use lib.Dec.{eqb, ltb, leb}
 use Rattle.text.proofs.Tests.{both_true}
 use Rattle.salvage.proofs.Rule.{preferred_more, preferred_fewer, lower_none, lower_first, lower_new, lower_old}
-use lib.ListN.{length, get_or, set}
-use lib.Seq.{get_or-set_same, get_or-set_other}
+use Rattle.std.proofs.Common.{length, get_or, take, count_by}
+use Rattle.std.proofs.lemmas.List.Sums.{count_by_more_yes, count_by_more_no}
+use Rattle.std.proofs.lemmas.List.{take_all}
 use Rattle.salvage.specs.Whole.{agrees, votes, poll_of, preferred, leader, lower, lowest}
 use Rattle.salvage.specs.declared.inner.Poll.{Poll}
 
 -- ---- one turn of each walk
 
--- a list that has the serials of the first k slots, with one more
-pub serials_more : (f : ℕ → ℕ) (s : List ℕ) (k v : ℕ) → k < length s → ((i : ℕ) → i < k → get_or s i 0 ≡ f i) → v ≡ f k
-    → (i : ℕ) → i < k + 1 → get_or (set s k v) i 0 ≡ f i
-serials_more f s k v h all e =
-    below_more (λ (i : ℕ). get_or (set s k v) i 0 ≡ f i) k
-    (λ i l. get_or-set_other s k i v 0 (λ z. omega arith) ∙ all i l)
-    (get_or-set_same s k v 0 h ∙ e)
+-- the votes of the slots whose serials are s are counted
+pub votes_counted : (n b : ℕ) (s : List ℕ) (m : ℕ) → m ≤ length s → votes (λ k. get_or s k 0) n b m ≡ count_by (λ x. agrees n b x) (take m s)
+unfolding votes
+votes_counted n b s zero h = refl
+votes_counted n b s (suc m) h = go (votes_counted n b s m (omega arith)) (agrees n b (get_or s m 0)) refl
+  where
+    go : votes (λ k. get_or s k 0) n b m ≡ count_by (λ x. agrees n b x) (take m s) → (t : Bool) → agrees n b (get_or s m 0) ≡ t
+        → votes (λ k. get_or s k 0) n b m + cond t 1 0 ≡ count_by (λ x. agrees n b x) (take (suc m) s)
+    go so_far true e = omega (arith, rw add-one at (count_by_more_yes (λ x. agrees n b x) s m 0 (omega arith) e))
+    go so_far false e = omega (arith, rw add-one at (count_by_more_no (λ x. agrees n b x) s m 0 (omega arith) e))
+
+pub votes_of : (n b : ℕ) (s : List ℕ) → votes (λ k. get_or s k 0) n b (length s) ≡ count_by (λ x. agrees n b x) s
+votes_of n b s = votes_counted n b s (length s) (omega arith) ∙ ap (count_by (λ x. agrees n b x)) (take_all (length s) s (omega arith))
 
 module _ (f : ℕ → ℕ) (n b : ℕ) where
-  pub votes_none : 0 ≡ votes f n b 0
-  unfolding votes
-  votes_none = refl
-
-  pub votes_more : (m x count : ℕ) → x ≡ cond (agrees n b (f m)) 1 0 → count ≡ votes f n b m → count + x ≡ votes f n b (m + 1)
-  unfolding votes
-  votes_more m x count e h = rw add-one (λ i. h i + e i)
-
   pub lowest_none : 0 ≡ lowest f n b 0
   unfolding lowest
   lowest_none = refl

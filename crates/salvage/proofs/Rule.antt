@@ -66,19 +66,10 @@ due_some n b k h = simp (lt-ltb k b h)
 pub free_fine : (d : ℕ) → d ≡ 0 → verdict.Fine ≡ free_verdict d
 free_fine d e = simp (eq-eqb d 0 e)
 
-pub free_missing : (d : ℕ) → (d ≡ 0 → ⊥) → verdict.Missing d ≡ free_verdict d
-free_missing d ne = simp (ne_eqb d 0 ne)
-
 pub held_fine : (s d : ℕ) → s ≡ d → verdict.Fine ≡ held_verdict s d
 held_fine s d e = simp (eq-eqb s d e)
 
-pub held_disagrees : (s d : ℕ) → (s ≡ d → ⊥) → verdict.Disagrees s ≡ held_verdict s d
-held_disagrees s d ne = simp (ne_eqb s d ne)
-
 module _ (s d h : ℕ) where
-  pub released_disagrees : (s ≡ d → ⊥) → verdict.Disagrees s ≡ released_verdict s d h
-  released_disagrees ne = simp (ne_eqb s d ne)
-
   pub released_none : s ≡ d → h ≡ 0 → verdict.Fine ≡ released_verdict s d h
   released_none e z = simp (eq-eqb s d e, le-ltb 0 h (omega arith))
 
@@ -94,6 +85,6 @@ pub agree_length : (j : List ℕ) → sized (length j) ≡ false → refuses 16 
 unfolding agree_rule
 agree_length j e = simp e
 
-pub agree_on : (j : List ℕ) → sized (length j) ≡ true → gives (newest_of j, oldest_of j (newest_of j)) ≡ agree_rule j
+pub agree_on : (j : List ℕ) → sized (length j) ≡ true → gives (record { newest = newest_of j; oldest = oldest_of j (newest_of j) }) ≡ agree_rule j
 unfolding agree_rule
 agree_on j e = simp e

@@ -1,18 +1,15 @@
 -- Why a journal as a whole isn't well formed, slot by slot (house; beyond document 01). The newest serial is the one that most whole records agree
 -- with, so that one bad serial that happens to belong in its slot doesn't make all others look wrong.
 use Rattle.std.specs.Prelude.{ℕ, zero, suc, ◌+◌, ◌-◌, ◌%◌, ◌<◌, ◌≡◌, Bool, cond, ◌&&◌, ◌||◌, List, eqb, leb, ltb, length, get_or}
-use Rattle.reasons.specs.Reasons.{Outcome, gives, refuses, demand, and_then, number_of}
+use Rattle.reasons.specs.Reasons.{Outcome, gives, demand, and_then}
 use Rattle.slots.specs.Journal.{slots_of, sized}
 use Rattle.remains.specs.Slot.{told_at, look_rule}
 use Rattle.remains.specs.declared.Slot.{Slot}
 use Rattle.remains.specs.declared.Slot.TheVariants.{Free, Held, Released, Damaged}
 use Rattle.salvage.specs.declared.inner.Poll.{Poll}
 use Rattle.salvage.specs.declared.Agreed.{Agreed}
-use Rattle.salvage.specs.declared.Agreed.TheVariants as agreed
 use Rattle.salvage.specs.declared.Verdict.{Verdict}
 use Rattle.salvage.specs.declared.Verdict.TheVariants as verdict
-use Rattle.salvage.specs.declared.Judged.{Judged}
-use Rattle.salvage.specs.declared.Judged.TheVariants as judged
 
 -- ---- serials
 
@@ -73,12 +70,8 @@ abbrev pub oldest_of : List ℕ → ℕ → ℕ
 oldest_of j b = lowest (λ (k : ℕ). held_in (told_at j k)) (slots_of j) b (slots_of j)
 
 -- the newest serial and the oldest held one; 16 for a length that is no journal's
-unfoldable pub agree_rule : List ℕ → Outcome (ℕ × ℕ)
-agree_rule j = demand (sized (length j)) 16 (gives (newest_of j, oldest_of j (newest_of j)))
-
-abbrev pub said_agreed : Agreed → Outcome (ℕ × ℕ)
-said_agreed (agreed.On b h) = gives (b, h)
-said_agreed (agreed.Refused r) = refuses (number_of r)
+unfoldable pub agree_rule : List ℕ → Outcome Agreed
+agree_rule j = demand (sized (length j)) 16 (gives (record { newest = newest_of j; oldest = oldest_of j (newest_of j) }))
 
 -- ---- one slot as a part of the whole
 
@@ -109,7 +102,3 @@ verdict_at j b h k = verdict_of (told_at j k) (due (slots_of j) b k) h
 -- what is wrong with slot k where b is the newest serial and h the oldest held one; the refusals are those of a look at the slot
 abbrev pub judge_rule : List ℕ → ℕ → ℕ → ℕ → Outcome Verdict
 judge_rule j k b h = and_then (look_rule j k) (λ s. gives (verdict_of s (due (slots_of j) b k) h))
-
-abbrev pub said_judged : Judged → Outcome Verdict
-said_judged (judged.Is v) = gives v
-said_judged (judged.Refused r) = refuses (number_of r)

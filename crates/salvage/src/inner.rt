@@ -1,11 +1,11 @@
 // The votes for the newest serial, the oldest held one, and the verdict on a slot.
 ghost use Rattle.std.specs.Prelude.{◌≡◌, true, cond, ℕ, ◌≤◌, ◌<◌, length, get_or};
-ghost use Rattle.slots.specs.Journal.{sized};
 ghost use Rattle.salvage.specs.Whole.{serial_in, held_in, agrees, votes, poll_of, preferred, leader, Serials, newest_of, lower, oldest_of};
 ghost use Rattle.salvage.specs.Whole.{due, free_verdict, held_verdict, released_verdict, verdict_of};
 
 use crate::Verdict;
 use remains::Slot;
+use remains::inner::Slots;
 
 // ---- the newest serial
 
@@ -13,10 +13,8 @@ fn serial_in(s: Slot) -> u32
     ensures { result ≡ serial_in s }
 {
     match s {
-        Slot::Free => 0,
-        Slot::Held(f) => f.serial,
-        Slot::Released(f) => f.serial,
-        Slot::Damaged(_, _) => 0,
+        Slot::Held(f) | Slot::Released(f) => f.serial,
+        Slot::Free | Slot::Damaged(_, _) => 0,
     }
 }
 
@@ -24,24 +22,21 @@ fn held_in(s: Slot) -> u32
     ensures { result ≡ held_in s }
 {
     match s {
-        Slot::Free => 0,
         Slot::Held(f) => f.serial,
-        Slot::Released(_) => 0,
-        Slot::Damaged(_, _) => 0,
+        Slot::Free | Slot::Released(_) | Slot::Damaged(_, _) => 0,
     }
 }
 
 // The serial of the whole record in each slot, 0 for none, so that a vote looks at a number and not at a slot.
-fn serials(j: &[u8], out: &mut [u32])
-    requires { (sized (length j.now) ≡ true) × (2048 ≤ length out.old) }
-    ensures { Serials j.now out.new }
+fn serials(slots: Slots) -> [u32; 2048]
+    ensures long { length result ≡ 2048 }
+    ensures each { Serials slots.entry.bytes.now result }
 {
-    let n = j.len() / 32;
-    let mut k = 0;
-    while k < n {
-        out[k] = serial_in(remains::inner::told_at(j, k));
-        k += 1;
+    let mut all = [0u32; 2048];
+    for k in 0..slots.count() {
+        all[k] = serial_in(slots.at(k));
     }
+    all
 }
 
 // Whether a journal of n slots whose newest serial is b keeps serial s.
@@ -54,28 +49,12 @@ fn agrees(n: usize, b: u32, s: u32) -> bool
     s <= b
 }
 
-// The vote of a slot with serial s for b.
-fn vote(n: usize, b: u32, s: u32) -> usize
-    ensures { (result ≡ cond (agrees n b s) 1 0) × (result ≤ 1) }
+// How many slots agree that b is the newest.
+fn votes(serials: &[u32], b: u32) -> usize
+    ensures { result ≡ votes (λ (k : ℕ). get_or serials.now k 0) (length serials.now) b (length serials.now) }
 {
-    if agrees(n, b, s) {
-        return 1;
-    }
-    0
-}
-
-// How many of n slots agree that b is the newest.
-fn votes(serials: &[u32; 2048], n: usize, b: u32) -> usize
-    requires { n ≤ 2048 }
-    ensures { result ≡ votes (λ (k : ℕ). get_or serials.now k 0) n b n }
-{
-    let mut count = 0;
-    let mut k = 0;
-    while k < n {
-        count += vote(n, b, serials[k]);
-        k += 1;
-    }
-    count
+    let n = serials.len();
+    serials.iter().filter(|s| agrees(n, b, **s)).count()
 }
 
 // A serial, and how many slots agree with it.
@@ -85,13 +64,12 @@ struct Poll {
     votes: usize,
 }
 
-fn poll_of(serials: &[u32; 2048], n: usize, b: u32) -> Poll
-    requires { n ≤ 2048 }
-    ensures { result ≡ poll_of (λ (k : ℕ). get_or serials.now k 0) n b }
+fn poll_of(serials: &[u32], b: u32) -> Poll
+    ensures { result ≡ poll_of (λ (k : ℕ). get_or serials.now k 0) (length serials.now) b }
 {
     Poll {
         serial: b,
-        votes: votes(serials, n, b),
+        votes: votes(serials, b),
     }
 }
 
@@ -111,28 +89,23 @@ fn preferred(a: Poll, c: Poll) -> Poll
     a
 }
 
-// The serial that most of n slots agree with.
-fn leader(serials: &[u32; 2048], n: usize) -> u32
-    requires { n ≤ 2048 }
-    ensures { result ≡ (leader (λ (k : ℕ). get_or serials.now k 0) n n).serial }
+// The serial that most slots agree with.
+fn leader(serials: &[u32]) -> u32
+    ensures { result ≡ (leader (λ (k : ℕ). get_or serials.now k 0) (length serials.now) (length serials.now)).serial }
 {
-    let mut best = poll_of(serials, n, 0);
-    let mut k = 0;
-    while k < n {
-        best = preferred(best, poll_of(serials, n, serials[k]));
-        k += 1;
+    let mut best = poll_of(serials, 0);
+    for &s in serials {
+        best = preferred(best, poll_of(serials, s));
     }
     best.serial
 }
 
 // The newest serial of a journal.
-pub fn newest(j: &[u8]) -> u32
-    requires { sized (length j.now) ≡ true }
-    ensures { result ≡ newest_of j.now }
+pub fn newest(slots: Slots) -> u32
+    ensures { result ≡ newest_of slots.entry.bytes.now }
 {
-    let mut of = [0u32; 2048];
-    serials(j, &mut of);
-    leader(&of, j.len() / 32)
+    let all = serials(slots);
+    leader(&all[..slots.count()])
 }
 
 // ---- the oldest held serial
@@ -164,19 +137,14 @@ fn kept_serial(n: usize, b: u32, s: u32) -> u32
 }
 
 // The oldest held serial that agrees with the newest, b.
-pub fn oldest(j: &[u8], b: u32) -> u32
-    requires { sized (length j.now) ≡ true }
-    ensures { result ≡ oldest_of j.now b }
+pub fn oldest(slots: Slots, b: u32) -> u32
+    ensures { result ≡ oldest_of slots.entry.bytes.now b }
 {
-    let n = j.len() / 32;
-    let mut low: u32 = 0;
-    let mut k = 0;
-    while k < n {
-        low = lower(
-            low,
-            kept_serial(n, b, held_in(remains::inner::told_at(j, k))),
-        );
-        k += 1;
+    let n = slots.count();
+    let mut low = 0;
+    for k in 0..n {
+        let held = held_in(slots.at(k));
+        low = lower(low, kept_serial(n, b, held));
     }
     low
 }

@@ -2,18 +2,19 @@
 #![tactic(auto)]
 
 use reasons::Reason;
-use remains::Looked;
+use remains::inner::Slots;
 
 mod inner;
 
 ghost use Rattle.std.specs.Prelude.{◌≡◌};
-ghost use Rattle.salvage.specs.Whole.{agree_rule, said_agreed, judge_rule, said_judged};
+ghost use Rattle.reasons.specs.Reasons.{said};
+ghost use Rattle.salvage.specs.Whole.{agree_rule, judge_rule};
 
 // The newest serial, and the oldest held one that agrees with it; 0 for none.
 #[derive(Clone, Copy)]
-pub enum Agreed {
-    On(u32, u32),
-    Refused(Reason),
+pub struct Agreed {
+    pub newest: u32,
+    pub oldest: u32,
 }
 
 // What is wrong with a slot as a part of the whole: the serial that is missing; the serial that belongs in a damaged slot, 0 for none; the serial
@@ -27,32 +28,21 @@ pub enum Verdict {
     Above(u32, u32),
 }
 
-#[derive(Clone, Copy)]
-pub enum Judged {
-    Is(Verdict),
-    Refused(Reason),
-}
-
 // The newest serial that most whole records agree with, of equals the higher, and the oldest held one that agrees with it.
-pub fn agree(j: &[u8]) -> Agreed
-    ensures { said_agreed result ≡ agree_rule j.now }
+pub fn agree(j: &[u8]) -> Result<Agreed, Reason>
+    ensures { said result ≡ agree_rule j.now }
 {
-    if !slots::is_sized(j.len()) {
-        return Agreed::Refused(Reason::BadJournal);
-    }
-    let b = inner::newest(j);
-    Agreed::On(b, inner::oldest(j, b))
+    let slots = Slots::of(j)?;
+    let newest = inner::newest(slots);
+    let oldest = inner::oldest(slots, newest);
+    Ok(Agreed { newest, oldest })
 }
 
 // What is wrong with slot k, newest being the newest serial and oldest the oldest held one.
-pub fn judge(j: &[u8], k: usize, newest: u32, oldest: u32) -> Judged
-    ensures { said_judged result ≡ judge_rule j.now k newest oldest }
+pub fn judge(j: &[u8], k: usize, newest: u32, oldest: u32) -> Result<Verdict, Reason>
+    ensures { said result ≡ judge_rule j.now k newest oldest }
 {
-    match remains::look(j, k) {
-        Looked::Refused(why) => Judged::Refused(why),
-        Looked::Says(slot) => {
-            let d = inner::due(j.len() / 32, newest, k);
-            Judged::Is(inner::verdict_of(slot, d, oldest))
-        }
-    }
+    let slot = remains::look(j, k)?;
+    let d = inner::due(j.len() / 32, newest, k);
+    Ok(inner::verdict_of(slot, d, oldest))
 }

@@ -1,36 +1,21 @@
 // The command `salvage`: a line for each slot that isn't free, one for each reason why the journal isn't well formed, and what the records come to.
 #![tactic(auto)]
 
-ghost use Rattle.std.specs.Prelude.{◌*◌, ◌≤◌, length};
-
 use journals::survey;
-use remains::{Counted, Counts, Looked};
-use salvage::{Agreed, Judged, Verdict};
+use remains::Counts;
+use salvage::{Agreed, Verdict};
 use say::Output;
 
 // ---- slots
 
-fn slot(out: &mut Output, journal: &[u8], k: usize)
-    requires { 32 * k ≤ length journal.now }
-{
-    match remains::look(journal, k) {
-        Looked::Says(slot) => slot_lines::told(
-            out,
-            text::piece(journal, 32 * k, 32),
-            journal.len() / 32,
-            k,
-            slot,
-        ),
-        Looked::Refused(why) => say::refused(out, why),
-    }
-}
-
+// What each slot says.
 fn slots(out: &mut Output, journal: &[u8]) {
     let n = journal.len() / 32;
-    let mut k = 0;
-    while k < n {
-        slot(out, journal, k);
-        k += 1;
+    for (k, record) in journal.chunks_exact(32).enumerate() {
+        match remains::look(journal, k) {
+            Ok(slot) => slot_lines::told(out, record, n, k, slot),
+            Err(why) => say::refused(out, why),
+        }
     }
 }
 
@@ -84,10 +69,10 @@ fn reason(out: &mut Output, k: usize, newest: u32, verdict: Verdict) -> bool {
     false
 }
 
-fn judged(out: &mut Output, journal: &[u8], k: usize, newest: u32, oldest: u32) -> bool {
-    match salvage::judge(journal, k, newest, oldest) {
-        Judged::Is(verdict) => reason(out, k, newest, verdict),
-        Judged::Refused(why) => {
+fn judged(out: &mut Output, journal: &[u8], k: usize, agreed: Agreed) -> bool {
+    match salvage::judge(journal, k, agreed.newest, agreed.oldest) {
+        Ok(verdict) => reason(out, k, agreed.newest, verdict),
+        Err(why) => {
             say::refused(out, why);
             false
         }
@@ -95,13 +80,10 @@ fn judged(out: &mut Output, journal: &[u8], k: usize, newest: u32, oldest: u32) 
 }
 
 // Writes every reason, and answers whether there is none: the journal is well formed.
-fn reasons_told(out: &mut Output, journal: &[u8], newest: u32, oldest: u32) -> bool {
-    let n = journal.len() / 32;
+fn reasons_told(out: &mut Output, journal: &[u8], agreed: Agreed) -> bool {
     let mut well = true;
-    let mut k = 0;
-    while k < n {
-        well = judged(out, journal, k, newest, oldest) & well;
-        k += 1;
+    for k in 0..journal.len() / 32 {
+        well &= judged(out, journal, k, agreed);
     }
     well
 }
@@ -115,14 +97,14 @@ fn counts(out: &mut Output, c: Counts) {
 
 fn counted(out: &mut Output, journal: &[u8]) {
     match remains::count(journal) {
-        Counted::Of(c) => counts(out, c),
-        Counted::Refused(why) => say::refusal(out, why),
+        Ok(c) => counts(out, c),
+        Err(why) => say::refusal(out, why),
     }
 }
 
-fn whole(out: &mut Output, journal: &[u8], newest: u32, oldest: u32) {
+fn whole(out: &mut Output, journal: &[u8], agreed: Agreed) {
     slots(out, journal);
-    let well = reasons_told(out, journal, newest, oldest);
+    let well = reasons_told(out, journal, agreed);
     counted(out, journal);
     survey::verdict(out, well);
 }
@@ -130,7 +112,7 @@ fn whole(out: &mut Output, journal: &[u8], newest: u32, oldest: u32) {
 // Tells all that the bytes of a journal still say.
 pub fn salvage(out: &mut Output, journal: &[u8]) {
     match salvage::agree(journal) {
-        Agreed::On(newest, oldest) => whole(out, journal, newest, oldest),
-        Agreed::Refused(_) => survey::wrong_length(out, journal.len()),
+        Ok(agreed) => whole(out, journal, agreed),
+        Err(_) => survey::wrong_length(out, journal.len()),
     }
 }

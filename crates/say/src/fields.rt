@@ -1,8 +1,8 @@
 // Words of a line as numbers and bytes; a word that isn't understood is answered here.
-ghost use Rattle.std.specs.Prelude.{◌≡◌, ◌≤◌, length};
+ghost use Rattle.std.specs.Prelude.{◌≤◌, length, IfSome};
 
 use super::{Output, line, words};
-use numerals::{Bytes, Number, Unclear};
+use numerals::Unclear;
 
 pub fn unclear(out: &mut Output, why: &[u8]) {
     words(out, b"not understood: ");
@@ -19,77 +19,42 @@ fn unclear_word(out: &mut Output, why: Unclear) {
     }
 }
 
-// A number that was understood, or none, which was answered.
-#[derive(Clone, Copy)]
-pub struct Field {
-    pub clear: bool,
-    pub value: u64,
-}
-
-// A word as a number, no more than `most`.
-pub fn number_of(out: &mut Output, word: &[u8], most: u64) -> Field
-    ensures { result.value ≤ most }
+// A word as a number, no more than `most`; none where it isn't understood, which is answered.
+pub fn number_of(out: &mut Output, word: &[u8], most: u64) -> Option<u64>
+    ensures { IfSome result (λ n. n ≤ most) }
 {
     match numerals::number_in(word, most) {
-        Number::Is(value) => Field { clear: true, value },
-        Number::Isnt(why) => {
+        Ok(n) => Some(n),
+        Err(why) => {
             unclear_word(out, why);
-            Field {
-                clear: false,
-                value: 0,
-            }
+            None
         }
     }
 }
 
 // Word k of a line as a number.
-pub fn number(out: &mut Output, text: &[u8], k: usize, most: u64) -> Field
-    ensures { result.value ≤ most }
+pub fn number(out: &mut Output, text: &[u8], k: usize, most: u64) -> Option<u64>
+    ensures { IfSome result (λ n. n ≤ most) }
 {
     number_of(out, script::word(text, k), most)
 }
 
-// How many bytes stand in the buffer's front, or none, which was answered.
-#[derive(Clone, Copy)]
-pub struct Filled {
-    pub clear: bool,
-    pub length: usize,
-}
-
-pub fn fills(length: usize) -> Filled
-    ensures { result.length ≡ length }
-{
-    Filled {
-        clear: true,
-        length,
-    }
-}
-
-pub fn fills_none() -> Filled
-    ensures { result.length ≡ 0 }
-{
-    Filled {
-        clear: false,
-        length: 0,
-    }
-}
-
-// A word as bytes, into the front of a buffer.
-pub fn bytes_of(out: &mut Output, word: &[u8], room: &mut [u8]) -> Filled
-    ensures { result.length ≤ length room.new }
+// A word as bytes, into the front of a buffer: how many; none where it isn't understood, which is answered.
+pub fn bytes_of(out: &mut Output, word: &[u8], room: &mut [u8]) -> Option<usize>
+    ensures { IfSome result (λ n. n ≤ length room.new) }
 {
     match numerals::bytes_in(script::text_of(word), room) {
-        Bytes::Count(length) => fills(length),
-        Bytes::Isnt(why) => {
+        Ok(n) => Some(n),
+        Err(why) => {
             unclear_word(out, why);
-            fills_none()
+            None
         }
     }
 }
 
 // Word 1 of a line as bytes.
-pub fn bytes(out: &mut Output, text: &[u8], room: &mut [u8]) -> Filled
-    ensures { result.length ≤ length room.new }
+pub fn bytes(out: &mut Output, text: &[u8], room: &mut [u8]) -> Option<usize>
+    ensures { IfSome result (λ n. n ≤ length room.new) }
 {
     bytes_of(out, script::word(text, 1), room)
 }

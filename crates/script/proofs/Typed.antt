@@ -1,5 +1,5 @@
 -- A line as people type it: blanks at its end, a tag before it, a text in groups.
-use Prim.Native.Nat.{ℕ, zero, suc, ◌+◌, ◌-◌, ◌≤◌, ◌<◌}
+use Prim.Native.Nat.{ℕ, suc, ◌+◌, ◌-◌, ◌≤◌, ◌<◌}
 use mathlib.Core.Path.{◌≡◌, refl, sym, ap, ◌∙◌}
 use mathlib.Core.Bool.{Bool, true, false, cond}
 use mathlib.Core.List.{List, [], ◌∷◌, ◌++◌}
@@ -7,10 +7,8 @@ use mathlib.Core.Logic.{◌⊎◌, inl, inr}
 use native.Mathlib.Omega.{arith}
 use native.Mathlib.Nat.{le_antisymm, zero-add}
 use native.Mathlib.Numerals.{add-one}
-use lib.Dec.{eqb}
 use lib.ListN.{length, take, drop, get_or, set, drop_of_length-le, length-drop}
-use lib.Seq.{take_all, take-suc, drop-cons, length-take-le, paste, paste-zero, paste-suc}
-use borrow.Author.Tests.{eq-eqb, ne_eqb}
+use lib.Seq.{take_all, take-suc, drop-cons, length-take-le, paste, paste-suc}
 use Rattle.text.specs.Numbers.{put}
 use Rattle.script.specs.Words.{is_space, after_words, word, is_blank, left_of, trimmed, is_tag, untagged, solid}
 
@@ -29,32 +27,25 @@ trimmed_end (a ∷ s) b = ap (left_of a) (trimmed_end s b) ∙ by (is_blank b)
     by true = refl
     by false = left_before a b s
 
-module _ (s : List ℕ) (n : ℕ) (h : 0 < n) (l : n ≤ length s) where
-  front : take n s ≡ take (n - 1) s ++ (get_or s (n - 1) 0 ∷ [])
-  front = let e : n ≡ suc (n - 1) = omega arith in ap (λ (k : ℕ). take k s) e ∙ take-suc s (n - 1) 0 (omega arith)
+module _ (s : List ℕ) (h : 1 ≤ length s) where
+  whole : s ≡ take (length s - 1) s ++ (get_or s (length s - 1) 0 ∷ [])
+  whole =
+      let e : length s ≡ suc (length s - 1) = omega arith in
+      sym (take_all (length s) s (omega arith)) ∙ ap (λ (k : ℕ). take k s) e ∙ take-suc s (length s - 1) 0 (omega arith)
 
-  pub trimmed_blank : is_blank (get_or s (n - 1) 0) ≡ true → trimmed (take n s) ≡ trimmed (take (n - 1) s)
-  trimmed_blank b = ap trimmed front ∙ trimmed_end (take (n - 1) s) (get_or s (n - 1) 0) ∙ rw b
+  pub trimmed_blank : is_blank (get_or s (length s - 1) 0) ≡ true → trimmed (take (length s - 1) s) ≡ trimmed s
+  trimmed_blank b = sym (ap trimmed whole ∙ trimmed_end (take (length s - 1) s) (get_or s (length s - 1) 0) ∙ rw b)
 
-  pub trimmed_kept : is_blank (get_or s (n - 1) 0) ≡ false → trimmed (take n s) ≡ take n s
+  pub trimmed_kept : is_blank (get_or s (length s - 1) 0) ≡ false → s ≡ trimmed s
   trimmed_kept b =
-      let e : cond (is_blank (get_or s (n - 1) 0)) (trimmed (take (n - 1) s)) (take (n - 1) s ++ (get_or s (n - 1) 0 ∷ [])) ≡ take (n - 1) s ++ (get_or s (n - 1) 0 ∷ []) = rw b in
-      ap trimmed front ∙ trimmed_end (take (n - 1) s) (get_or s (n - 1) 0) ∙ e ∙ sym front
+      let e : cond (is_blank (get_or s (length s - 1) 0)) (trimmed (take (length s - 1) s)) (take (length s - 1) s ++ (get_or s (length s - 1) 0 ∷ []))
+      ≡ take (length s - 1) s ++ (get_or s (length s - 1) 0 ∷ []) = rw b in
+      sym (ap trimmed whole ∙ trimmed_end (take (length s - 1) s) (get_or s (length s - 1) 0) ∙ e ∙ sym whole)
 
-pub trimmed-none : (s : List ℕ) (n : ℕ) → n ≤ 0 → trimmed (take n s) ≡ []
+pub trimmed-none : (s : List ℕ) → length s < 1 → s ≡ trimmed s
 unfolding trimmed
-trimmed-none s zero h = refl
-trimmed-none s (suc n) h = absurd (omega arith)
-
-pub blank_space : (b : ℕ) → b ≡ 32 → true ≡ is_blank b
-blank_space b h = rw (eq-eqb b 32 h)
-
-pub blank_other : (b : ℕ) → (b ≡ 32 → ⊥) → eqb b 13 ≡ is_blank b
-blank_other b h = rw (ne_eqb b 32 h)
-
-pub no_tag : (w : List ℕ) → length w ≡ 0 → false ≡ is_tag w
-no_tag [] h = refl
-no_tag (b ∷ w) h = absurd (omega arith)
+trimmed-none [] h = refl
+trimmed-none (b ∷ s) h = absurd (omega arith)
 
 module _ (s : List ℕ) where
   pub tagged : is_tag (word 0 s) ≡ true → after_words 1 s ≡ untagged s
@@ -88,9 +79,6 @@ solid_end s i h = rw (drop_of_length-le s h)
 paste_put : (d w : List ℕ) (n : ℕ) → n ≤ length w → paste d 0 w n ≡ put d 0 (take n w)
 unfolding put
 paste_put d w n h = ap (λ (k : ℕ). take 0 d ++ take n w ++ drop (0 + k) d) (sym (length-take-le n w h))
-
-pub grouped_start : (s d : List ℕ) → Grouped s d d 0 0
-grouped_start s d = record { written = paste-zero d 0 (solid s); rest = refl; some = omega arith; fits = omega arith }
 
 module _ (s d out : List ℕ) (n i : ℕ) (g : Grouped s d out n i) where
   module _ (h : i < length s) (l : n < length d) where

@@ -1,14 +1,17 @@
 -- One turn and the end of each loop over a line, and where a word ends.
 use Prim.Native.Nat.{ℕ, zero, suc, ◌+◌, ◌-◌, ◌≤◌, ◌<◌}
 use mathlib.Core.Path.{◌≡◌, refl, sym, ap, ◌∙◌}
-use mathlib.Core.Bool.{Bool, true, false, cond, ◌&&◌, ◌||◌}
+use mathlib.Core.Bool.{Bool, true, false, cond, ◌&&◌, ◌||◌, and-true, and-false}
 use mathlib.Core.List.{List, [], ◌∷◌}
 use mathlib.Core.Logic.{◌⊎◌, inl, inr}
 use native.Mathlib.Omega.{arith}
 use native.Mathlib.Numerals.{add-one}
 use lib.Dec.{eqb}
 use lib.ListN.{length, take, drop, get_or, drop_of_length-le}
+use lib.Pointwise.{pointwise}
 use lib.Seq.{drop-cons, drop-drop}
+use Rattle.std.specs.Prelude.{count_by}
+use Rattle.std.proofs.lemmas.List.Recursion.{is_count_by}
 use borrow.Author.Tests.{eq-eqb, ne_eqb, eqb-true}
 use Rattle.text.proofs.Tests.{both_true}
 use Rattle.script.specs.Words.{is_space, first_word, after_word, after_words, spaces, gap_after, plain, same}
@@ -31,6 +34,11 @@ after_rest (b ∷ s) = by (is_space b) (after_rest s)
     by : (t : Bool) → drop (suc (length (first_word s))) s ≡ after_word s → drop (suc (length (cond t [] (b ∷ first_word s)))) (b ∷ s) ≡ cond t s (after_word s)
     by true e = refl
     by false e = e
+
+-- a space adds a word
+pub spaces_count : (s : List ℕ) → spaces s ≡ count_by is_space s
+unfolding spaces
+spaces_count = is_count_by spaces is_space refl (λ b s. let e : suc (spaces s) ≡ 1 + spaces s = omega arith in ap (λ (n : ℕ). cond (is_space b) n (spaces s)) e)
 
 -- after an empty rest there is nothing
 pub after_none : (k : ℕ) → after_words k [] ≡ []
@@ -74,6 +82,12 @@ module _ (s : List ℕ) (i : ℕ) where
       let d : suc n - 1 ≡ n = omega arith in
       ap (λ (m : ℕ). after_words m (drop (e + 1) s)) d ∙ ap (λ (m : ℕ). after_words n (drop (m + 1) s)) g ∙ ap (after_words n) after_at
 
+  -- in a loop that has passed j of k words over
+  pub after_one : (k j e : ℕ) → j < k → e ≡ i + length (first_word (drop i s)) → after_words (k - (j + 1)) (drop (e + 1) s) ≡ after_words (k - j) (drop i s)
+  after_one k j e h g =
+      let d : k - (j + 1) ≡ k - j - 1 = omega arith in
+      ap (λ (n : ℕ). after_words n (drop (e + 1) s)) d ∙ after_next (k - j) e (omega arith) g
+
   pub after_last : (n e : ℕ) → 0 < n → e ≡ i + length (first_word (drop i s)) → length s ≤ e → drop e s ≡ after_words n (drop i s)
   after_last n e h g l =
       let d : drop e s ≡ [] = drop_of_length-le s l in
@@ -84,19 +98,6 @@ module _ (s : List ℕ) (i : ℕ) where
   unfolding after_words
   after_zero zero h = refl
   after_zero (suc n) h = absurd (omega arith)
-
-  -- a space adds a word
-  pub spaces_space : i < length s → get_or s i 0 ≡ 32 → spaces (drop i s) ≡ suc (spaces (drop (suc i) s))
-  unfolding spaces
-  spaces_space h e = rw (drop-cons s i 0 h, eq-eqb (get_or s i 0) 32 e)
-
-  pub spaces_other : i < length s → (get_or s i 0 ≡ 32 → ⊥) → spaces (drop i s) ≡ spaces (drop (suc i) s)
-  unfolding spaces
-  spaces_other h e = rw (drop-cons s i 0 h, ne_eqb (get_or s i 0) 32 e)
-
-  pub spaces_end : length s ≤ i → spaces (drop i s) ≡ 0
-  unfolding spaces
-  spaces_end h = rw (drop_of_length-le s h)
 
   -- one byte further in the search for an empty word
   pub gap_turn : (t : Bool) → i < length s → gap_after t (drop i s) ≡ ((t && is_space (get_or s i 0)) || gap_after (is_space (get_or s i 0)) (drop (suc i) s))
@@ -137,46 +138,22 @@ same_is (a ∷ s) (b ∷ t) h =
     let f = same_is s t p.1 in
     cc
 
-pub same_apart : (s t : List ℕ) → (length s ≡ length t → ⊥) → same s t ≡ false
-same_apart s t h = by (same s t) refl
-  where
-    by : (b : Bool) → same s t ≡ b → b ≡ false
-    by true e = absurd (h (same_length s t e))
-    by false e = refl
-
 pub same_self : (s : List ℕ) → same s s ≡ true
 unfolding same
 same_self [] = refl
 same_self (a ∷ s) = rw (eq-eqb a a refl) (same_self s)
 
-module _ (s t : List ℕ) (i : ℕ) (hs : i < length s) (ht : i < length t) where
-  pub same_turn : get_or s i 0 ≡ get_or t i 0 → same (drop i s) (drop i t) ≡ same (drop (suc i) s) (drop (suc i) t)
-  unfolding same
-  same_turn e = rw (drop-cons s i 0 hs, drop-cons t i 0 ht, eq-eqb (get_or s i 0) (get_or t i 0) e)
-
-  pub same_stop : (get_or s i 0 ≡ get_or t i 0 → ⊥) → same (drop i s) (drop i t) ≡ false
-  unfolding same
-  same_stop e = rw (drop-cons s i 0 hs, drop-cons t i 0 ht, ne_eqb (get_or s i 0) (get_or t i 0) e)
-
-pub same_end : (s t : List ℕ) (i : ℕ) → length s ≤ i → length t ≤ i → same (drop i s) (drop i t) ≡ true
+-- so it is the library's equality of lists
+pub same_pointwise : (s t : List ℕ) → pointwise eqb s t ≡ same s t
 unfolding same
-same_end s t i h k = rw (drop_of_length-le s h, drop_of_length-le t k)
+same_pointwise [] [] = refl
+same_pointwise [] (b ∷ t) = refl
+same_pointwise (a ∷ s) [] = refl
+same_pointwise (a ∷ s) (b ∷ t) = ap (λ (e : Bool). eqb a b && e) (same_pointwise s t)
 
--- `-` alone, another text of one byte, and texts of other lengths
-pub plain_dash : (s : List ℕ) → length s ≡ 1 → get_or s 0 0 ≡ 45 → plain s ≡ []
-unfolding plain
-plain_dash [] h e = refl
-plain_dash (b ∷ []) h e = rw (eq-eqb b 45 e)
-plain_dash (a ∷ b ∷ s) h e = absurd (omega arith)
-
-pub plain_one : (s : List ℕ) → length s ≡ 1 → (get_or s 0 0 ≡ 45 → ⊥) → plain s ≡ s
-unfolding plain
-plain_one [] h e = refl
-plain_one (b ∷ []) h e = rw (ne_eqb b 45 e)
-plain_one (a ∷ b ∷ s) h e = refl
-
-pub plain_long : (s : List ℕ) → (length s ≡ 1 → ⊥) → plain s ≡ s
-unfolding plain
-plain_long [] h = refl
-plain_long (b ∷ []) h = absurd (h refl)
-plain_long (a ∷ b ∷ s) h = refl
+-- `-` alone stands for the empty text
+pub plain_is : (s : List ℕ) → plain s ≡ cond (same s (45 ∷ [])) [] s
+unfolding plain same
+plain_is [] = refl
+plain_is (b ∷ []) = ap (λ (t : Bool). cond t [] (b ∷ [])) (sym (and-true (eqb b 45)))
+plain_is (a ∷ b ∷ s) = ap (λ (t : Bool). cond t [] (a ∷ b ∷ s)) (sym (and-false (eqb a 45)))

@@ -10,14 +10,12 @@ fn end_of(line: &[u8], from: usize) -> usize
     requires { from ≤ length line.now }
     ensures { (result ≡ from + length (first_word (drop from line.now))) × (result ≤ length line.now) }
 {
-    let mut i = from;
-    while i < line.len() {
-        if line[i] == 32 {
+    for i in from..line.len() {
+        if line[i] == b' ' {
             return i;
         }
-        i += 1;
     }
-    i
+    line.len()
 }
 
 // Where word k starts; the line's end where there is none.
@@ -25,14 +23,12 @@ fn start_of(line: &[u8], k: usize) -> usize
     ensures { (result ≤ length line.now) × (drop result line.now ≡ after_words k line.now) }
 {
     let mut at = 0;
-    let mut left = k;
-    while 0 < left {
+    for _ in 0..k {
         let e = end_of(line, at);
         if line.len() <= e {
             return e;
         }
         at = e + 1;
-        left -= 1;
     }
     at
 }
@@ -67,15 +63,7 @@ pub fn word(line: &[u8], k: usize) -> &[u8]
 pub fn operands(line: &[u8]) -> usize
     ensures { result ≡ spaces line.now }
 {
-    let mut n = 0;
-    let mut i = 0;
-    while i < line.len() {
-        if line[i] == 32 {
-            n += 1;
-        }
-        i += 1;
-    }
-    n
+    line.iter().filter(|&&b| b == b' ').count()
 }
 
 // Whether a word of a line is empty.
@@ -83,62 +71,48 @@ pub fn has_gap(line: &[u8]) -> bool
     ensures { result ≡ gap line.now }
 {
     let mut space = true;
-    let mut i = 0;
-    while i < line.len() {
-        let now = line[i] == 32;
-        if space {
-            if now {
-                return true;
-            }
+    for &b in line {
+        let now = b == b' ';
+        if space && now {
+            return true;
         }
         space = now;
-        i += 1;
     }
     space
 }
 
 // The text that a word writes: `-` alone stands for the empty one.
+#[tactic(auto, using(crate::proofs::Words::plain_is))]
 pub fn text_of(w: &[u8]) -> &[u8]
     ensures { result.now ≡ plain w.now }
 {
-    if w.len() == 1 {
-        if w[0] == 45 {
-            return &w[..0];
-        }
-    }
-    w
+    if is_same(w, b"-") { &w[..0] } else { w }
 }
 
 fn is_blank(b: u8) -> bool
     ensures { result ≡ is_blank b }
 {
-    if b == 32 {
-        return true;
-    }
-    b == 13
+    b == b' ' || b == b'\r'
 }
 
 // A line without the blanks at its end.
 pub fn trimmed(line: &[u8]) -> &[u8]
     ensures { result.now ≡ trimmed line.now }
 {
-    let mut n = line.len();
-    while 0 < n {
-        if !is_blank(line[n - 1]) {
-            return &line[..n];
+    let mut rest = line;
+    while let [front @ .., last] = rest {
+        if !is_blank(*last) {
+            return rest;
         }
-        n -= 1;
+        rest = front;
     }
-    &line[..0]
+    rest
 }
 
 fn is_tag(w: &[u8]) -> bool
     ensures { result ≡ is_tag w.now }
 {
-    if w.len() == 0 {
-        return false;
-    }
-    w[w.len() - 1] == 58
+    w.ends_with(b":")
 }
 
 // A line without its tag.
@@ -156,7 +130,7 @@ fn put_solid(b: u8, room: &mut [u8], n: usize) -> usize
     requires { n < length room.old }
     ensures { (result ≡ cond (is_space b) n (n + 1)) × (room.new ≡ cond (is_space b) room.old (set room.old n b)) }
 {
-    if b == 32 {
+    if b == b' ' {
         return n;
     }
     room[n] = b;
@@ -169,30 +143,19 @@ pub fn solid(s: &[u8], room: &mut [u8]) -> usize
     ensures room_after { room.new ≡ put room.old 0 (take (length room.old) (solid s.now)) }
 {
     let mut n = 0;
-    let mut i = 0;
-    while i < s.len() {
+    for &b in s {
         if room.len() <= n {
             return n;
         }
-        n = put_solid(s[i], room, n);
-        i += 1;
+        n = put_solid(b, room, n);
     }
     n
 }
 
 // Whether two texts are the same.
+#[tactic(auto, using(crate::proofs::Words::same_pointwise))]
 pub fn is_same(a: &[u8], b: &[u8]) -> bool
     ensures { result ≡ same a.now b.now }
 {
-    if a.len() != b.len() {
-        return false;
-    }
-    let mut i = 0;
-    while i < a.len() {
-        if a[i] != b[i] {
-            return false;
-        }
-        i += 1;
-    }
-    true
+    a == b
 }

@@ -6,31 +6,18 @@ use say::Output;
 
 // ---- the card
 
-// A digit, `?` for a byte that is none: a damaged record may hold any byte.
-fn digit(out: &mut Output, d: &[u8]) {
-    if text::all_digits(d) {
-        say::words(out, d);
-    } else {
-        say::words(out, b"?");
-    }
-}
-
+// Digits, `?` for a byte that is none: a damaged record may hold any byte.
 fn digits(out: &mut Output, part: &[u8]) {
-    let mut i = 0;
-    while i < part.len() {
-        digit(out, text::piece(part, i, 1));
-        i += 1;
+    for &b in part {
+        out.put(if text::is_digit(b) { b } else { b'?' });
     }
 }
 
 // A star for each hidden digit of a card number of n digits, `?` where n is no such number's length.
 fn stars(out: &mut Output, n: u8) {
-    if n < 13 {
-        say::words(out, b"?");
-    } else if 19 < n {
-        say::words(out, b"?");
-    } else {
-        say::stars(out, (n - 10) as usize);
+    match n {
+        13..=19 => say::stars(out, (n - 10) as usize),
+        _ => out.put(b'?'),
     }
 }
 
@@ -69,10 +56,7 @@ fn fault_value(out: &mut Output, passes: bool, name: &[u8], n: u64) {
 
 // The slot in which a serial belongs, of n slots.
 fn slot_of(serial: u32, n: usize) -> u64 {
-    if serial == 0 {
-        return 0;
-    }
-    if n == 0 {
+    if serial == 0 || n == 0 {
         return 0;
     }
     ((serial - 1) as usize % n) as u64

@@ -1,4 +1,5 @@
 -- No call compares clocks: a journal's view is told by its bytes outside its records' clocks.
+use Rattle.std.proofs.Common.{Option, Some, None}
 use Prim.Native.Nat.{ℕ, ◌<◌, ◌+◌, ◌-◌, ◌*◌, ◌/◌, ◌%◌}
 use mathlib.Core.Path.{◌≡◌, refl, sym, ap, ◌∙◌, subst}
 use mathlib.Core.Bool.{Bool, false, ◌&&◌, and-false}
@@ -8,8 +9,6 @@ use lib.ListN.{get_or}
 use Rattle.text.specs.Bytes.{within}
 use Rattle.slots.specs.Record.{is_held, is_released, is_record, length_fits, kept, length_at, state_at}
 use Rattle.slots.specs.Journal.{slots_of, place, state_of, Formed, NewestIs, SameButClocks}
-use Rattle.slots.specs.declared.Newest.{Newest}
-use Rattle.slots.specs.declared.Newest.TheVariants.{Malformed, Is}
 use Rattle.slots.proofs.States.{free_no_record}
 use Rattle.slots.proofs.Records.{good_same}
 
@@ -53,6 +52,6 @@ module _ (j k : List ℕ) (w : SameButClocks j k) where
       }
 
 -- "No call compares clocks": journals that differ in clocks alone have one view
-pub clock_view : (j k : List ℕ) → SameButClocks j k → (m : Newest) → NewestIs j m → NewestIs k m
-clock_view j k w Malformed h = λ n b f. h n b (same_formed k j (clocks_turned j k w) n b f)
-clock_view j k w (Is b) f = subst (λ (n : ℕ). Formed k n b) (ap (λ (x : ℕ). x / 32) w.size) (same_formed j k w (slots_of j) b f)
+pub clock_view : (j k : List ℕ) → SameButClocks j k → (m : Option ℕ) → NewestIs j m → NewestIs k m
+clock_view j k w None h = λ n b f. h n b (same_formed k j (clocks_turned j k w) n b f)
+clock_view j k w (Some b) f = subst (λ (n : ℕ). Formed k n b) (ap (λ (x : ℕ). x / 32) w.size) (same_formed j k w (slots_of j) b f)

@@ -1,9 +1,7 @@
 -- When a journal is well formed, in the paper's words.
-use Rattle.std.specs.Prelude.{ℕ, ◌-◌, ◌*◌, ◌/◌, ◌%◌, ◌≤◌, ◌<◌, ◌≡◌, Bool, true, false, ◌&&◌, List, eqb, get_or, length}
+use Rattle.std.specs.Prelude.{ℕ, ◌-◌, ◌*◌, ◌/◌, ◌%◌, ◌≤◌, ◌<◌, ◌≡◌, Bool, true, false, ◌&&◌, List, eqb, get_or, length, Option, Some, None}
 use Rattle.text.specs.Bytes.{within}
 use Rattle.slots.specs.Record.{is_held, is_released, is_record, state_at, Zeros, Good}
-use Rattle.slots.specs.declared.Newest.{Newest}
-use Rattle.slots.specs.declared.Newest.TheVariants.{Malformed, Is}
 
 -- r tells whether P holds
 abbrev pub Tells : Bool → Type 0 → Type 0
@@ -43,10 +41,10 @@ pub record Formed (j : List ℕ) (n b : ℕ) : Type 0 where
   pub rest : Zeros j (32 * b) (length j)
   pub order : Ordered j n b
 
--- what a scan of the journal j may answer: its view
-abbrev pub NewestIs : List ℕ → Newest → Type 0
-NewestIs j Malformed = (n b : ℕ) → Formed j n b → ⊥
-NewestIs j (Is b) = Formed j (slots_of j) b
+-- what a scan of the journal j may answer, its view: the newest serial, or `None` where it is not well formed
+abbrev pub NewestIs : List ℕ → Option ℕ → Type 0
+NewestIs j None = (n b : ℕ) → Formed j n b → ⊥
+NewestIs j (Some b) = Formed j (slots_of j) b
 
 -- ---- clocks
 

@@ -7,13 +7,6 @@ ghost use Rattle.slots.specs.Record.{is_held, is_released, is_record, held_state
 ghost use Rattle.slots.specs.Journal.{Tells, sized, place, Stands, Ordered, NewestIs};
 ghost use Rattle.slots.specs.Writes.{wrote, record_writes};
 
-// The view of a journal: its newest serial, 0 for none, or that it is not well formed.
-#[derive(Clone, Copy)]
-pub enum Newest {
-    Malformed,
-    Is(u32),
-}
-
 // ---- what a state byte says
 
 pub fn is_held(x: u8) -> bool
@@ -40,23 +33,15 @@ pub fn freed(x: u8) -> u8
 pub fn is_record(x: u8) -> bool
     ensures { result ≡ is_record x }
 {
-    if is_held(x) {
-        return true;
-    }
-    is_released(x)
+    is_held(x) || is_released(x)
 }
 
 // Whether a record of state x may have a PAN of n digits.
+#[tactic(auto, unfolding(crate::specs::Record::length_fits))]
 pub fn length_fits(x: u8, n: u8) -> bool
     ensures { result ≡ length_fits x n }
 {
-    if n < 13 {
-        return false;
-    }
-    if 19 < n {
-        return false;
-    }
-    true
+    (13..=19).contains(&n)
 }
 
 // How many digits a record of state x keeps.
@@ -111,11 +96,9 @@ pub fn write_record(j: &mut [u8], at: usize, r: &[u8; 32])
     requires { at + 32 ≤ length j.old }
     ensures { j.new ≡ wrote j.old (record_writes r.now at) }
 {
-    let mut k = 0;
-    while k < 32 {
+    for k in 0..32 {
         let i = (k + 16) % 32;
         j[at + i] = r[i];
-        k += 1;
     }
 }
 
@@ -131,11 +114,10 @@ pub fn zeros(j: &[u8], from: usize, to: usize) -> bool
         }
         i += 4;
     }
-    while i < to {
-        if j[i] != 0 {
+    for k in i..to {
+        if j[k] != 0 {
             return false;
         }
-        i += 1;
     }
     true
 }
@@ -145,12 +127,10 @@ fn digits(j: &[u8], from: usize, to: usize) -> bool
     requires { (from ≤ to) × (to ≤ length j.now) }
     ensures { Tells result (Digits j.now from to) }
 {
-    let mut i = from;
-    while i < to {
+    for i in from..to {
         if !text::is_digit(j[i]) {
             return false;
         }
-        i += 1;
     }
     true
 }
@@ -187,11 +167,7 @@ pub fn place_of(n: usize, s: u32) -> usize
     requires { (1 ≤ n) × (n ≤ 2048) }
     ensures { (result ≡ place n s) × (result + 32 ≤ 32 * n) }
 {
-    if s == 0 {
-        return 0;
-    }
-    let k = (s - 1) as usize;
-    32 * (k % n)
+    32 * (s.saturating_sub(1) as usize % n)
 }
 
 // The place before `at`, round the ring of n slots.
@@ -220,11 +196,7 @@ pub fn onward(n: usize, at: usize) -> usize
 pub fn floor_of(n: usize, b: u32) -> u32
     ensures { result ≡ b - n }
 {
-    let x = b as usize;
-    if x < n {
-        return 0;
-    }
-    (x - n) as u32
+    (b as usize).saturating_sub(n) as u32
 }
 
 // The higher of two serials.
@@ -240,16 +212,11 @@ pub fn higher(a: u32, b: u32) -> u32
 // ---- the scan
 
 // Whether a length is that of 1 to 2,048 whole slots.
+#[tactic(auto, unfolding(crate::specs::Journal::sized))]
 pub fn is_sized(len: usize) -> bool
     ensures { result ≡ sized len }
 {
-    if len % 32 != 0 {
-        return false;
-    }
-    if len / 32 < 1 {
-        return false;
-    }
-    len / 32 <= 2048
+    len % 32 == 0 && (1..=2048).contains(&(len / 32))
 }
 
 // The highest serial of the first n slots.
@@ -259,13 +226,8 @@ fn highest(j: &[u8], n: usize) -> u32
     ensures least { (m : ℕ) → ((k : ℕ) → k < n → u32_at j.now (32 * k) ≤ m) → result ≤ m }
 {
     let mut top: u32 = 0;
-    let mut k = 0;
-    while k < n {
-        let x = text::u32_at(j, 32 * k);
-        if top < x {
-            top = x;
-        }
-        k += 1;
+    for k in 0..n {
+        top = higher(top, text::u32_at(j, 32 * k));
     }
     top
 }
@@ -278,20 +240,17 @@ fn stands(j: &[u8], n: usize, b: u32) -> bool
     let low = floor_of(n, b);
     let mut at = place_of(n, b);
     let mut gone = false;
-    let mut s = b;
-    while low < s {
+    for k in (low..b).rev() {
+        let s = k + 1;
         if !good(j, at, s) {
             return false;
         }
         let held = is_held(j[at + 15]);
-        if held {
-            if gone {
-                return false;
-            }
+        if held && gone {
+            return false;
         }
         gone = !held;
         at = back(n, at);
-        s -= 1;
     }
     true
 }
@@ -308,20 +267,20 @@ fn rest_zero(j: &[u8], n: usize, b: u32) -> bool
     zeros(j, 32 * x, j.len())
 }
 
-// The view of a journal. The newest serial can only be the highest in any slot.
-pub fn newest_of(j: &[u8]) -> Newest
+// The view of a journal: its newest serial, 0 for none; `None` where it is not well formed. The newest serial can only be the highest in any slot.
+pub fn newest_of(j: &[u8]) -> Option<u32>
     ensures { NewestIs j.now result }
 {
     if !is_sized(j.len()) {
-        return Newest::Malformed;
+        return None;
     }
     let n = j.len() / 32;
     let b = highest(j, n);
     if !stands(j, n, b) {
-        return Newest::Malformed;
+        return None;
     }
     if !rest_zero(j, n, b) {
-        return Newest::Malformed;
+        return None;
     }
-    Newest::Is(b)
+    Some(b)
 }

@@ -11,6 +11,8 @@ use lib.ListN.{length, get_or, drop, length-reverse}
 use lib.Seq.{ext_get_or, get_or-take, get_or-drop}
 use Rattle.text.specs.Numbers.{u32_at}
 use Rattle.stream.specs.Stream.{bit_at, is_one, bits_from, stream, number, bits_of}
+use Rattle.stream.specs.Bits.{all_bits}
+use Rattle.stream.specs.declared.Stream.{Stream}
 use Rattle.stream.proofs.Streams.{bit_n-bit_at, length-bits_from, get_or-bits_from, get_d_reverse, part, length_part, stream-fits}
 use Rattle.stream.proofs.Numbers.{half_half, halves, bits_of-number}
 
@@ -126,13 +128,13 @@ part_reversed s c p n h =
         get_d_reverse (bits_from s q m) i false (rw l k) ∙ ap (λ (j : ℕ). get_or (bits_from s q m) (j - suc i) false) l
         ∙ get_or-bits_from s q m (m - suc i) (omega arith)
 
-module _ (v : Bool) (s : List ℕ) (c p n x : ℕ) (there : p + n ≤ c) where
-  pub forward_is : v ≡ false → x ≡ number (bits_from s p n) → x ≡ number (part (stream v s c) p n)
-  forward_is f e = rw f (e ∙ ap number (part_forward s c p n there))
+module _ (s : Stream) (p n x : ℕ) (there : p + n ≤ s.count) where
+  pub forward_is : s.reversed ≡ false → x ≡ number (bits_from s.bytes.now p n) → x ≡ number (part (all_bits s) p n)
+  forward_is f e = rw f (e ∙ ap number (part_forward s.bytes.now s.count p n there))
 
-  pub reversed_is : v ≡ true → (y : ℕ) → y ≡ number (bits_from s (c - p - n) n) → x ≡ number (reverse (bits_of n y))
-      → x ≡ number (part (stream v s c) p n)
+  pub reversed_is : s.reversed ≡ true → (y : ℕ) → y ≡ number (bits_from s.bytes.now (s.count - p - n) n) → x ≡ number (reverse (bits_of n y))
+      → x ≡ number (part (all_bits s) p n)
   reversed_is f y e r =
-      let b : bits_of n y ≡ bits_from s (c - p - n) n =
-      ap₂ bits_of (sym (length-bits_from s (c - p - n) n)) e ∙ bits_of-number (bits_from s (c - p - n) n) in
-      rw f (r ∙ ap (λ (l : List Bool). number (reverse l)) b ∙ ap number (part_reversed s c p n there))
+      let b : bits_of n y ≡ bits_from s.bytes.now (s.count - p - n) n =
+      ap₂ bits_of (sym (length-bits_from s.bytes.now (s.count - p - n) n)) e ∙ bits_of-number (bits_from s.bytes.now (s.count - p - n) n) in
+      rw f (r ∙ ap (λ (l : List Bool). number (reverse l)) b ∙ ap number (part_reversed s.bytes.now s.count p n there))

@@ -39,17 +39,6 @@ fn window(s: &[u8], place: usize, width: usize) -> usize
     (word >> shift) % (1 << width)
 }
 
-// The number of the `width` bits from bit `at` on, of a stream of `count` bits read forward or reversed.
-pub fn number_at(s: &[u8], count: usize, reversed: bool, at: usize, width: usize) -> u8
-    requires { (count ≤ 8 * length s.now) × (at + width ≤ count) × (1 ≤ width) × (width ≤ 8) }
-    ensures { (result ≡ number (take width (drop at (stream reversed s.now count)))) × (result < 2 ^ width) }
-{
-    if reversed {
-        return turned(window(s, count - at - width, width), width) as u8;
-    }
-    window(s, at, width) as u8
-}
-
 // The number of the ten bits of the lent bytes that stand `shift` bits into the four bytes from `first` on.
 fn ten(s: &[u8], first: usize, shift: usize) -> usize
     requires { (first + 4 ≤ length s.now) × (shift + 10 ≤ 32) }
@@ -58,14 +47,40 @@ fn ten(s: &[u8], first: usize, shift: usize) -> usize
     ((text::u32_at(s, first) >> shift) % 1024) as usize
 }
 
-// "Read ten bits at once, the first lowest": those from bit `at` on. With 32 bits left, four bytes are there that have them all.
-pub fn ten_at(s: &[u8], count: usize, reversed: bool, at: usize) -> usize
-    requires { (count ≤ 8 * length s.now) × (at + 32 ≤ count) }
-    ensures { (result ≡ number (take 10 (drop at (stream reversed s.now count)))) × (result < 1024) }
-{
-    if reversed {
-        let last = count - at - 1;
-        return turned(ten(s, last / 8 - 3, last % 8 + 15), 10);
+// The first `count` bits of lent bytes, read forward, or reversed: the last of them first.
+#[derive(Clone, Copy)]
+pub struct Stream<'a> {
+    pub bytes: &'a [u8],
+    pub count: usize,
+    pub reversed: bool,
+    pub ghost lent: { count ≤ 8 * length bytes.now },
+    // Behind a `&` a number's range is known where it is read, and from this everywhere.
+    pub ghost fits: { count < 2 ^ 64 },
+}
+
+impl<'a> Stream<'a> {
+    ghost use Rattle.stream.specs.Bits.{all_bits};
+
+    // The number of the `width` bits from bit `at` on.
+    pub fn number_at(&self, at: usize, width: usize) -> u8
+        requires { (at + width ≤ self.now.count) × (1 ≤ width) × (width ≤ 8) }
+        ensures { (result ≡ number (take width (drop at (all_bits self.now)))) × (result < 2 ^ width) }
+    {
+        if self.reversed {
+            return turned(window(self.bytes, self.count - at - width, width), width) as u8;
+        }
+        window(self.bytes, at, width) as u8
     }
-    ten(s, at / 8, at % 8)
+
+    // "Read ten bits at once, the first lowest": those from bit `at` on. With 32 bits left, four bytes are there that have them all.
+    pub fn ten_at(&self, at: usize) -> usize
+        requires { at + 32 ≤ self.now.count }
+        ensures { (result ≡ number (take 10 (drop at (all_bits self.now)))) × (result < 1024) }
+    {
+        if self.reversed {
+            let last = self.count - at - 1;
+            return turned(ten(self.bytes, last / 8 - 3, last % 8 + 15), 10);
+        }
+        ten(self.bytes, at / 8, at % 8)
+    }
 }

@@ -1,4 +1,5 @@
 -- The survey's slots, one by one, and one turn of its loop.
+use Rattle.std.proofs.Common.{Option, Result, Some, None}
 use Prim.Native.Nat.{ℕ, ◌≤◌, ◌<◌, ◌+◌, ◌*◌}
 use mathlib.Core.Path.{◌≡◌, refl, sym, ap, ◌∙◌, subst, subst⁻¹}
 use mathlib.Core.Bool.{Bool, true, false}
@@ -8,19 +9,18 @@ use native.Mathlib.Decide.{dec_lt}
 use borrow.Author.Tests.{le-leb, lt-leb}
 use lib.ListN.{length, get_or, set}
 use lib.Seq.{get_or-set_same, get_or-set_other, ext_get_or}
-use Rattle.reasons.specs.Reasons.{Outcome, gives, refuses, number_of}
-use Rattle.reasons.proofs.Laws.{gives_refuses, refuses_one}
+use Rattle.reasons.specs.Reasons.{Outcome, gives, refuses}
+use Rattle.reasons.proofs.Laws.{gives_refuses, said_one}
+use Rattle.reasons.specs.declared.Reason.{Reason}
 use Rattle.slots.specs.Record.{is_held, is_record, serial_at, state_at, Zeros, Good}
 use Rattle.slots.specs.Journal.{slots_of, sized, place}
 use Rattle.slots.specs.Views.{formed}
-use Rattle.slots.specs.declared.Newest.{Newest}
+use Rattle.std.specs.Option.{is_some}
 use Rattle.slots.proofs.Ranges.{differ}
 use Rattle.slots.proofs.States.{not_both, free_no_record}
 use Rattle.slots.proofs.Passed.{good_released}
 use Rattle.slots.proofs.Views.{one_view}
-use Rattle.surveys.specs.declared.Surveyed.{Surveyed}
-use Rattle.surveys.specs.declared.Surveyed.TheVariants as surveyed
-use Rattle.surveys.specs.Survey.{Belongs, SlotIs, free, held, released, damaged, survey_rule, SlotsIn, said_surveyed, Fills, filled, unfilled, Surveys}
+use Rattle.surveys.specs.Survey.{Belongs, SlotIs, free, held, released, damaged, survey_rule, SlotsIn, Fills, filled, unfilled, Surveys}
 
 -- ---- one slot
 
@@ -62,7 +62,11 @@ later_same out₀ out k v later i l = get_or-set_other out k i v 0 (λ z. omega 
 
 -- ---- the rule, outcome by outcome
 
-module _ (m : Newest) (j : List ℕ) (n : ℕ) where
+pub formed_is : (m : Option ℕ) → formed m ≡ is_some m
+formed_is None = refl
+formed_is (Some b) = refl
+
+module _ (m : Option ℕ) (j : List ℕ) (n : ℕ) where
   pub survey_length : sized (length j) ≡ false → refuses 16 ≡ survey_rule m j n
   unfolding survey_rule
   survey_length h = simp h
@@ -118,19 +122,8 @@ fills_one j out o u k l e (filled {f = f} a) (unfilled {n = n}) = gives_refuses 
 fills_one j out o u k l e (unfilled {n = n}) (filled {f = f} b) = gives_refuses f n (sym e)
 fills_one j out o u k l e unfilled unfilled = refl
 
-surveyed_one : (r q : Surveyed) → said_surveyed r ≡ said_surveyed q → r ≡ q
-surveyed_one surveyed.Formed surveyed.Formed e = refl
-surveyed_one surveyed.Formed surveyed.Malformed e = let z : true ≡ false = cc in absurd (differ true z refl)
-surveyed_one surveyed.Formed (surveyed.Refused b) e = gives_refuses true (number_of b) e
-surveyed_one surveyed.Malformed surveyed.Formed e = let z : false ≡ true = cc in absurd (differ false refl z)
-surveyed_one surveyed.Malformed surveyed.Malformed e = refl
-surveyed_one surveyed.Malformed (surveyed.Refused b) e = gives_refuses false (number_of b) e
-surveyed_one (surveyed.Refused a) surveyed.Formed e = gives_refuses true (number_of a) (sym e)
-surveyed_one (surveyed.Refused a) surveyed.Malformed e = gives_refuses false (number_of a) (sym e)
-surveyed_one (surveyed.Refused a) (surveyed.Refused b) e = ap surveyed.Refused (refuses_one a b e)
-
 -- survey: any two outcomes that its promise allows are equal
-pub one_survey : (j out : List ℕ) (r q : Surveyed) (k l : List ℕ) → Surveys j out r k → Surveys j out q l → (r ≡ q) × (k ≡ l)
+pub one_survey : (j out : List ℕ) (r q : Result Bool Reason) (k l : List ℕ) → Surveys j out r k → Surveys j out q l → (r ≡ q) × (k ≡ l)
 one_survey j out r q k l a b =
     let w = one_view j a b in
-    (surveyed_one r q (w.1.0 ∙ sym w.2.0), fills_one j out _ _ k l refl w.1.1 w.2.1)
+    (said_one r q (w.1.0 ∙ sym w.2.0), fills_one j out _ _ k l refl w.1.1 w.2.1)

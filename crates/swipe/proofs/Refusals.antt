@@ -1,6 +1,7 @@
 -- "Order: scratch under 37 (1), 16, 14, 17, 19, 18, then the reading's refusals, layout 6, Luhn 4, 15", "in the same order, with 76 bytes of
 -- scratch", with 21 "just after 14", 23 "just after 17", 24 "just after 15" and 22 "the last check before receipt": each is given exactly when its
 -- condition is the first to hold, on either track.
+use Rattle.std.proofs.Common.{Option}
 use Prim.Native.Nat.{ℕ, ◌+◌}
 use mathlib.Core.Path.{◌≡◌, refl, sym, ap, ◌∙◌}
 use mathlib.Core.Bool.{not}
@@ -13,14 +14,14 @@ use Rattle.ranges.specs.Ranges.{table_ok}
 use Rattle.hotlist.specs.Hotlist.{list_ok}
 use Rattle.dates.specs.Dates.{real}
 use Rattle.slots.specs.Views.{formed, newest}
-use Rattle.slots.specs.declared.Newest.{Newest}
 use Rattle.journal.specs.Rules.{full, book_rule}
 use Rattle.payer.specs.Payer.{room, Given, Payer}
-use Rattle.swipe.specs.Swipe.{box_rule, ready_rule, swipe_rule, Receipt, receipt, swipe_answer}
+use Rattle.swipe.specs.Swipe.{box_rule, ready_rule, swipe_rule, receipt, swipe_answer}
+use Rattle.swipe.specs.declared.Receipt.{Receipt}
 use Rattle.swipe.proofs.Laws.{is_booked}
 use Rattle.payer.proofs.Refusals.{CardRefuses, card_refuses}
 
-module _ (m : Newest) (g : Given) (amount space : ℕ) (j : List ℕ) (n : ℕ) where
+module _ (m : Option ℕ) (g : Given) (amount space : ℕ) (j : List ℕ) (n : ℕ) where
   pub swipe_refuses : (swipe_rule m g amount space j ≡ refuses n) ↔
       First (leb (room g.track) space) 1 n
       (First (formed m) 16 n

@@ -1,72 +1,51 @@
 // One swipe, from the stripe to the journal.
 #![tactic(auto)]
 
-ghost use Rattle.std.specs.Prelude.{◌≡◌, ◌≤◌, length, drop, replicate};
-ghost use Rattle.text.specs.Numbers.{put};
+ghost use Rattle.std.specs.Prelude.{◌≡◌, ◌≤◌, length, drop};
+ghost use Rattle.reasons.specs.Reasons.{said};
 ghost use Rattle.slots.specs.Views.{Seen};
-ghost use Rattle.payer.specs.Payer.{room, terms, given};
-ghost use Rattle.swipe.specs.Swipe.{box_rule, said_bookable, Charges, Swipes};
+ghost use Rattle.payer.specs.Payer.{room, terms_of, given};
+ghost use Rattle.swipe.specs.Swipe.{box_rule, Charges, Swipes};
 
-use dates::{Date, Left};
+use dates::Date;
 use layout::Track;
-use payer::{Card, card_of_stripe, room_of};
+use payer::{Terms, card_of_stripe, room_of};
 use reasons::Reason;
-use slots::Newest;
 
-// ---- the box
-
-// The newest serial of a journal that a payment can be booked in.
-#[derive(Clone, Copy)]
-pub enum Bookable {
-    After(u32),
-    Refused(Reason),
-}
-
-// The journal, the tables, the hot list, the amount, the date, the serials, and a slot that is not held.
-fn ready(
-    site: &[u8],
-    acquirer: &[u8],
-    hot: &[u64],
-    digits: u32,
-    amount: u32,
-    date: Date,
-    journal: &[u8],
-) -> Bookable
-    ensures { Seen journal.now (λ m. said_bookable result ≡ box_rule m
-        (terms site.now acquirer.now hot.now digits) amount date journal.now) }
+// The newest serial of a journal that a payment can be booked in: the journal, the tables, the hot list, the amount, the date, the serials, and a
+// slot that is not held.
+fn ready(terms: Terms, amount: u32, date: Date, journal: &[u8]) -> Result<u32, Reason>
+    ensures { Seen journal.now (λ m. said result ≡ box_rule m (terms_of terms.entry) amount date journal.now) }
 {
-    match slots::newest_of(journal) {
-        Newest::Malformed => Bookable::Refused(Reason::BadJournal),
-        Newest::Is(b) => {
-            let tables = ranges::inner::tables_ok(site, acquirer);
-            if !tables {
-                return Bookable::Refused(Reason::BadTable);
-            }
-            if !hotlist::inner::list_ok(hot, digits) {
-                return Bookable::Refused(Reason::BadHotList);
-            }
-            if amount == 0 {
-                return Bookable::Refused(Reason::ZeroAmount);
-            }
-            if !dates::inner::is_real(date) {
-                return Bookable::Refused(Reason::BadDate);
-            }
-            if b == 4294967295 {
-                return Bookable::Refused(Reason::SerialsUsedUp);
-            }
-            if journal::inner::is_full(journal, b) {
-                return Bookable::Refused(Reason::JournalFull);
-            }
-            Bookable::After(b)
-        }
+    let Some(b) = slots::newest_of(journal) else {
+        return Err(Reason::BadJournal);
+    };
+    if !ranges::inner::tables_ok(terms.site, terms.acquirer) {
+        return Err(Reason::BadTable);
     }
+    if !hotlist::inner::list_ok(terms.hot, terms.digits) {
+        return Err(Reason::BadHotList);
+    }
+    if amount == 0 {
+        return Err(Reason::ZeroAmount);
+    }
+    if !dates::inner::is_real(date) {
+        return Err(Reason::BadDate);
+    }
+    if b == 4294967295 {
+        return Err(Reason::SerialsUsedUp);
+    }
+    if journal::inner::is_full(journal, b) {
+        return Err(Reason::JournalFull);
+    }
+    Ok(b)
 }
 
-// The serial that the payment was booked with, and the days that the card has left.
-#[derive(Clone, Copy)]
-pub enum Swiped {
-    Booked(u32, Left),
-    Refused(Reason),
+// What a booked swipe answers: the serial that the payment was booked with, and the days that the card has left, or no number where it has no expiry.
+#[derive(Clone, Copy, Debug, PartialEq, Eq)]
+pub struct Receipt {
+    pub serial: u32,
+    pub left: Option<u32>,
 }
 
 // A swipe between the scratch's test, which comes before, and its clearing, which comes after.
@@ -74,44 +53,26 @@ fn book_card(
     track: Track,
     stream: &[u8],
     bits: u64,
-    site: &[u8],
-    acquirer: &[u8],
-    hot: &[u64],
-    digits: u32,
+    terms: Terms,
     amount: u32,
     date: Date,
     clock: u32,
     scratch: &mut [u8],
     journal: &mut [u8],
-) -> Swiped
+) -> Result<Receipt, Reason>
     requires { room track ≤ length scratch.old }
-    ensures { Seen journal.old (λ m. Charges m (given track stream.now bits
-        (terms site.now acquirer.now hot.now digits) date) amount clock (length scratch.old)
-        journal.old result journal.new) × (drop (room track) scratch.new ≡ drop (room track) scratch.old) }
+    ensures { Seen journal.old (λ m. Charges m (given track stream.now bits (terms_of terms.entry) date) amount clock
+        (length scratch.old) journal.old result journal.new) × (drop (room track) scratch.new ≡ drop (room track) scratch.old) }
 {
-    match ready(site, acquirer, hot, digits, amount, date, journal) {
-        Bookable::Refused(r) => Swiped::Refused(r),
-        Bookable::After(b) => match card_of_stripe(
-            track, stream, bits, site, acquirer, hot, digits, date, scratch,
-        ) {
-            Card::Refused(r) => Swiped::Refused(r),
-            Card::Pays(at, n, label, left) => {
-                let end = at + n;
-                let pan = &scratch[at..end];
-                let serial = journal::inner::write_at(journal, b, pan, label, amount, clock);
-                Swiped::Booked(serial, left)
-            }
-        },
-    }
-}
-
-// Zeros over the first n bytes.
-fn clear(scratch: &mut [u8], n: usize)
-    requires { (n ≤ length scratch.old) × (n ≤ 76) }
-    ensures { scratch.new ≡ put scratch.old 0 (replicate n 0) }
-{
-    let zeros = [0u8; 76];
-    text::put_at(scratch, 0, &zeros[..n]);
+    let b = ready(terms, amount, date, journal)?;
+    let card = card_of_stripe(track, stream, bits, terms, date, scratch)?;
+    let end = card.at + card.digits;
+    let pan = &scratch[card.at..end];
+    let serial = journal::inner::write_at(journal, b, pan, card.label, amount, clock);
+    Ok(Receipt {
+        serial,
+        left: card.left,
+    })
 }
 
 // A swipe of a card's track: it refuses, or it books one payment and answers its serial and what the card has left. The scratch holds the card's
@@ -120,27 +81,23 @@ pub fn swipe(
     track: Track,
     stream: &[u8],
     bits: u64,
-    site: &[u8],
-    acquirer: &[u8],
-    hot: &[u64],
-    digits: u32,
+    terms: Terms,
     amount: u32,
     date: Date,
     clock: u32,
     scratch: &mut [u8],
     journal: &mut [u8],
-) -> Swiped
-    ensures { Swipes (given track stream.now bits
-        (terms site.now acquirer.now hot.now digits) date) amount clock
+) -> Result<Receipt, Reason>
+    ensures { Swipes (given track stream.now bits (terms_of terms.entry) date) amount clock
         scratch.old journal.old result scratch.new journal.new }
 {
     let n = room_of(track);
     if scratch.len() < n {
-        return Swiped::Refused(Reason::ShortOutput);
+        return Err(Reason::ShortOutput);
     }
     let r = book_card(
-        track, stream, bits, site, acquirer, hot, digits, amount, date, clock, scratch, journal,
+        track, stream, bits, terms, amount, date, clock, scratch, journal,
     );
-    clear(scratch, n);
+    scratch[..n].fill(0);
     r
 }

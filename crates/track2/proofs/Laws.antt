@@ -11,6 +11,8 @@ use Rattle.bits.specs.Reading.{Track, forward_of, reversed_of, Reads}
 use Rattle.chars.specs.Flip.{Proper}
 use Rattle.bits.specs.Flip.{flip_bit, Reverses}
 use Rattle.bits.specs.declared.Read.{Read}
+use Rattle.std.proofs.Common.{Result}
+use Rattle.reasons.specs.declared.Reason.{Reason}
 use Rattle.bits.proofs.Laws.{reads_one, chars_fit, flip_found_in_bytes, reversal_in_bytes}
 use Rattle.track2.specs.Track2.{track2, track2_rule}
 
@@ -19,7 +21,7 @@ unfolding begins skip
 proper2 = record { tail = true ∷ false ∷ true ∷ false ∷ []; is_start = refl; long = refl; clash = λ t. refl }
 
 -- any two outcomes that the promise of read allows are equal: the answer and every lent byte
-pub read_one_lem : (s : List ℕ) (bits : ℕ) (out : List ℕ) (r q : Read) (x y : List ℕ)
+pub read_one_lem : (s : List ℕ) (bits : ℕ) (out : List ℕ) (r q : Result Read Reason) (x y : List ℕ)
     → Reads track2 s bits out r x → Reads track2 s bits out q y → (r ≡ q) × (x ≡ y)
 read_one_lem = reads_one track2
 

@@ -3,6 +3,7 @@
 
 use bits::Read;
 use layout::Track;
+use reasons::Reason;
 use say::{Output, fields};
 
 // ---- the reading
@@ -22,7 +23,7 @@ fn told(out: &mut Output, track: Track, way: &[u8], read: &[u8]) {
 }
 
 // The reading of a track.
-pub fn read_on(track: Track, stream: &[u8], bits: u64, room: &mut [u8]) -> Read {
+pub fn read_on(track: Track, stream: &[u8], bits: u64, room: &mut [u8]) -> Result<Read, Reason> {
     match track {
         Track::Two => track2::read(stream, bits, room),
         Track::One => track1::read(stream, bits, room),
@@ -33,30 +34,21 @@ pub fn read_on(track: Track, stream: &[u8], bits: u64, room: &mut [u8]) -> Read 
 fn read(out: &mut Output, track: Track, stream: &[u8], bits: u64) {
     let mut room = [0u8; 76];
     match read_on(track, stream, bits, &mut room) {
-        Read::Forward(n) => told(out, track, b" forward ", text::piece(&room, 0, n)),
-        Read::Reversed(n) => told(out, track, b" reversed ", text::piece(&room, 0, n)),
-        Read::Refused(why) => say::refused(out, why),
+        Ok(Read::Forward(n)) => told(out, track, b" forward ", text::piece(&room, 0, n)),
+        Ok(Read::Reversed(n)) => told(out, track, b" reversed ", text::piece(&room, 0, n)),
+        Err(why) => say::refused(out, why),
     }
-}
-
-fn track_in(out: &mut Output, track: Track, line: &[u8], stream: &mut [u8]) {
-    let filled = fields::bytes(out, line, stream);
-    let clear = filled.clear;
-    if !clear {
-        return;
-    }
-    let bits = fields::number(out, line, 2, 18446744073709551615);
-    let known = bits.clear;
-    if !known {
-        return;
-    }
-    let n = filled.length;
-    read(out, track, &stream[0..n], bits.value);
 }
 
 pub fn track(out: &mut Output, track: Track, line: &[u8]) {
     let mut stream = [0u8; 70000];
-    track_in(out, track, line, &mut stream);
+    let Some(n) = fields::bytes(out, line, &mut stream) else {
+        return;
+    };
+    let Some(bits) = fields::number(out, line, 2, u64::MAX) else {
+        return;
+    };
+    read(out, track, &stream[..n], bits);
 }
 
 // ---- the layout
@@ -81,8 +73,8 @@ fn parts(out: &mut Output, chars: &[u8]) {
 
 pub fn divide(out: &mut Output, chars: &[u8]) {
     match layout::divide(chars) {
-        layout::Division::Refused(why) => say::refused(out, why),
-        _ => parts(out, chars),
+        Ok(_) => parts(out, chars),
+        Err(why) => say::refused(out, why),
     }
 }
 
@@ -100,22 +92,15 @@ fn parts1(out: &mut Output, chars: &[u8]) {
 
 fn divide1(out: &mut Output, chars: &[u8]) {
     match layout1::divide(chars) {
-        layout1::Division::Refused(why) => say::refused(out, why),
-        _ => parts1(out, chars),
+        Ok(_) => parts1(out, chars),
+        Err(why) => say::refused(out, why),
     }
-}
-
-fn layout1_in(out: &mut Output, line: &[u8], room: &mut [u8]) {
-    let filled = fields::bytes(out, line, room);
-    let clear = filled.clear;
-    if !clear {
-        return;
-    }
-    let n = filled.length;
-    divide1(out, &room[0..n]);
 }
 
 pub fn layout1(out: &mut Output, line: &[u8]) {
     let mut room = [0u8; 70000];
-    layout1_in(out, line, &mut room);
+    let Some(n) = fields::bytes(out, line, &mut room) else {
+        return;
+    };
+    divide1(out, &room[..n]);
 }

@@ -3,8 +3,9 @@
 
 pub mod causes;
 
-ghost use Rattle.std.specs.Prelude.{◌≤◌, ◌<◌, length, IfErr};
+ghost use Rattle.std.specs.Prelude.{◌≡◌, ◌≤◌, length};
 
+use std::fmt;
 use std::io::{Error, ErrorKind, Print, Stderr, Stdin, Stdout};
 
 // Standard input, output and error.
@@ -13,6 +14,29 @@ pub struct Streams {
     pub input: Stdin,
     pub output: Stdout,
     pub errors: Stderr,
+}
+
+// Why no more could be written, and what could not be.
+#[derive(Drop)]
+struct Stopped<'a> {
+    why: Error,
+    rest: &'a [u8],
+}
+
+// Writes to standard output.
+fn written(output: Stdout, s: &[u8]) -> Result<(), Stopped<'_>> {
+    let mut rest = s;
+    while !rest.is_empty() {
+        match output.write_some(rest) {
+            Ok(0) => {
+                let why = Error::from(ErrorKind::WriteZero);
+                return Err(Stopped { why, rest });
+            }
+            Ok(n) => rest = &rest[n..],
+            Err(why) => return Err(Stopped { why, rest }),
+        }
+    }
+    Ok(())
 }
 
 // How many bytes may wait.
@@ -25,107 +49,74 @@ pub struct Output {
     count: usize,
     failed: bool,
     streams: Streams,
+    ghost in_room: { count ≤ 65536 },
 }
 
-// Nothing waits.
-pub fn nothing(streams: Streams) -> Output {
-    Output {
-        bytes: [0; ROOM],
-        count: 0,
-        failed: false,
-        streams,
+impl Output {
+    // Nothing waits.
+    pub fn new(streams: Streams) -> Output {
+        Output {
+            bytes: [0; ROOM],
+            count: 0,
+            failed: false,
+            streams,
+        }
     }
-}
 
-// How many bytes wait.
-fn count(out: &Output) -> usize
-    ensures { result ≤ 65536 }
-{
-    let n = out.count;
-    if n < ROOM { n } else { ROOM }
-}
-
-// How many bytes could be written, and why no more could be.
-#[derive(Drop)]
-struct Stopped {
-    count: usize,
-    why: Error,
-}
-
-// Writes to standard output.
-fn written(output: Stdout, s: &[u8]) -> Result<(), Stopped>
-    ensures { IfErr result (λ stopped. stopped.count ≤ length s.now) }
-{
-    let mut done = 0;
-    while done < s.len() {
-        let got = output.write_some(&s[done..]);
-        match got {
-            Ok(0) => {
-                return Err(Stopped {
-                    count: done,
-                    why: Error::from(ErrorKind::WriteZero),
-                });
+    // Writes what waits to standard output, or says why not on standard error, where what could not be written goes too, so that it is
+    // heard of. Once a write has failed, the rest of that answer follows it there.
+    fn all_written(&self) -> bool {
+        let errors = self.streams.errors;
+        let waiting = &self.bytes[..self.count];
+        if self.failed {
+            causes::remark(errors, waiting);
+            return false;
+        }
+        match written(self.streams.output, waiting) {
+            Ok(()) => true,
+            Err(stopped) => {
+                causes::fail(errors, b"card: standard output", stopped.why);
+                causes::remark(errors, b"card: not written there:\n");
+                causes::remark(errors, stopped.rest);
+                false
             }
-            Ok(n) => done += n,
-            Err(why) => return Err(Stopped { count: done, why }),
         }
     }
-    Ok(())
-}
 
-// Writes to standard output, or says why not on standard error, where what could not be written goes too, so that it is heard of.
-fn all_written(streams: Streams, s: &[u8]) -> bool {
-    match written(streams.output, s) {
-        Ok(()) => true,
-        Err(stopped) => {
-            causes::fail(streams.errors, b"card: standard output", stopped.why);
-            causes::remark(streams.errors, b"card: not written there:\n");
-            causes::remark(streams.errors, &s[stopped.count..]);
-            false
+    // Writes what waits: whether all so far could be written.
+    pub fn flush(&mut self) -> bool
+        ensures { self.new.count ≡ 0 }
+    {
+        let good = self.all_written();
+        self.count = 0;
+        self.failed = !good;
+        good
+    }
+
+    // Lets a byte wait; where there is no more room, what waits is written out first.
+    pub fn put(&mut self, b: u8) {
+        if self.count == ROOM {
+            self.flush();
+        }
+        self.bytes[self.count] = b;
+        self.count += 1;
+    }
+
+    pub fn put_all(&mut self, s: &[u8]) {
+        for &b in s {
+            self.put(b);
         }
     }
-}
 
-// Once a write has failed, the rest of that answer follows it to standard error.
-fn write_out(streams: Streams, s: &[u8], failed: bool) -> bool {
-    if failed {
-        causes::remark(streams.errors, s);
-        return false;
+    // Says on standard error what failed, and why.
+    pub fn fail(&self, what: &[u8], why: Error) {
+        causes::fail(self.streams.errors, what, why);
     }
-    all_written(streams, s)
 }
 
-// Writes what waits: whether all so far could be written.
-pub fn flush(out: &mut Output) -> bool {
-    let n = count(out);
-    let good = write_out(out.streams, &out.bytes[..n], out.failed);
-    out.count = 0;
-    if !good {
-        out.failed = true;
+impl fmt::Write for Output {
+    fn write_str(&mut self, s: &str) -> fmt::Result {
+        self.put_all(s.as_bytes());
+        Ok(())
     }
-    good
-}
-
-// Where the next byte waits: where there is no more room, what waits is written out first.
-fn next_place(out: &mut Output) -> usize
-    ensures { result < 65536 }
-{
-    let n = count(out);
-    if n < ROOM {
-        return n;
-    }
-    flush(out);
-    0
-}
-
-// Lets a byte wait.
-pub fn put(out: &mut Output, b: u8) {
-    let n = next_place(out);
-    out.bytes[n] = b;
-    out.count = n + 1;
-}
-
-// Says on standard error what failed, and why.
-pub fn fail(out: &Output, what: &[u8], why: Error) {
-    causes::fail(out.streams.errors, what, why);
 }

@@ -1,4 +1,5 @@
 -- The whole walk: the records that a walker gives are the held payments' list, in order, and nothing else.
+use Rattle.std.proofs.Common.{Option, None}
 use Prim.Native.Nat.{ℕ, zero, suc, ◌≤◌, ◌<◌, ◌+◌, ◌-◌, ◌%◌}
 use mathlib.Core.Path.{◌≡◌, refl, sym, ap, ◌∙◌}
 use mathlib.Core.Bool.{Bool, true, false, cond}
@@ -12,8 +13,6 @@ use Rattle.text.proofs.Parts.{Same}
 use Rattle.reasons.specs.Reasons.{after, number_in}
 use Rattle.slots.specs.Record.{is_held}
 use Rattle.slots.specs.Journal.{slots_of, state_of, Formed, NewestIs}
-use Rattle.slots.specs.declared.Newest.{Newest}
-use Rattle.slots.specs.declared.Newest.TheVariants.{Malformed}
 use Rattle.slots.proofs.Form.{serial_le}
 use Rattle.slots.proofs.Views.{view_one, one_view, known}
 use Rattle.held.specs.Held.{record_at, held_after, held_list, low_of, first_of}
@@ -137,10 +136,10 @@ pub first_none : first_of [] ≡ 0
 unfolding first_of
 first_none = refl
 
--- "gives held records .. by rising serial, each once, then says done": from its start, in as many steps as there are slots or more
-pub walk_all : (j : List ℕ) (b s t : ℕ) → Formed j (slots_of j) b → b < 4294967296 → StartsAt j s → slots_of j ≤ t → walk j s t ≡ held_list j b
+-- from its start, in as many steps as there are serials to go, or more
+pub walk_enough : (j : List ℕ) (b s t : ℕ) → Formed j (slots_of j) b → b < 4294967296 → StartsAt j s → (low_of j b < s → b - s < t) → walk j s t ≡ held_list j b
 unfolding tell_rule
-walk_all j b s t f fits w h = go (known j b f w) (first_held j (slots_of j) (low_of j b) (b - low_of j b))
+walk_enough j b s t f fits w h = go (known j b f w) (first_held j (slots_of j) (low_of j b) (b - low_of j b))
   where
     go : s ≡ first_of (held_list j b) → Begins j (slots_of j) (low_of j b) (b - low_of j b) → walk j s t ≡ held_list j b
     go e (empty x) = ap (λ (y : ℕ). walk j y t) (e ∙ none_first x) ∙ done j t ∙ sym x
@@ -151,12 +150,16 @@ walk_all j b s t f fits w h = go (known j b f w) (first_held j (slots_of j) (low
         let q : low_of j b + (b - low_of j b) - (u - 1) ≡ b - (u - 1) = omega arith in
         let all : held_list j b ≡ held_after j (slots_of j) (u - 1) (b - (u - 1)) = x ∙ ap (held_after j (slots_of j) (u - 1)) q in
         let su : s ≡ u = e ∙ ap first_of all ∙ first_serial j (slots_of j) b u (b - (u - 1)) f l (omega arith) held (omega arith) in
-        ap (λ (y : ℕ). walk j y t) su ∙ walk_from j b f fits t u l (omega arith) held (omega (arith, f.least)) ∙ sym all
+        ap (λ (y : ℕ). walk j y t) su ∙ walk_from j b f fits t u l (omega arith) held (omega (arith, h (omega arith))) ∙ sym all
+
+-- "gives held records .. by rising serial, each once, then says done": from its start, in as many steps as there are slots or more
+pub walk_all : (j : List ℕ) (b s t : ℕ) → Formed j (slots_of j) b → b < 4294967296 → StartsAt j s → slots_of j ≤ t → walk j s t ≡ held_list j b
+walk_all j b s t f fits w h = walk_enough j b s t f fits w (λ l. omega (arith, f.least))
 
 -- "It starts with 16": a malformed journal gives a walker that is done, and the companion's number is 16
-pub walk_malformed : (j : List ℕ) (s x t : ℕ) → NewestIs j Malformed → StartsAt j s → StartNumber j x → (x ≡ 16) × (walk j s t ≡ [])
+pub walk_malformed : (j : List ℕ) (s x t : ℕ) → NewestIs j None → StartsAt j s → StartNumber j x → (x ≡ 16) × (walk j s t ≡ [])
 unfolding tell_rule
 walk_malformed j s x t is a b = (
-  b.so ∙ ap (λ (m : Newest). number_in (tell_rule m j)) (view_one j b.view Malformed b.is is),
-  ap (λ (y : ℕ). walk j y t) (a.so ∙ ap (λ (m : Newest). after (tell_rule m j) 0 (λ t. t.oldest)) (view_one j a.view Malformed a.is is)) ∙ done j t,
+  b.so ∙ ap (λ (m : Option ℕ). number_in (tell_rule m j)) (view_one j b.view None b.is is),
+  ap (λ (y : ℕ). walk j y t) (a.so ∙ ap (λ (m : Option ℕ). after (tell_rule m j) 0 (λ t. t.oldest)) (view_one j a.view None a.is is)) ∙ done j t,
 )

@@ -1,4 +1,5 @@
 pub mod Held
 pub mod Steps
 pub mod Laws
+pub mod ToCome
 pub mod Whole

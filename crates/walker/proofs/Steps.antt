@@ -1,26 +1,26 @@
 -- One step of a walk as the code takes it, and as its rule says.
+use Rattle.std.proofs.Common.{Option, Some, None, Result}
 use Prim.Native.Nat.{ℕ, zero, suc, max, ◌-◌, ◌≤◌, ◌<◌}
 use mathlib.Core.Path.{◌≡◌, refl, sym, ap, ◌∙◌}
 use mathlib.Core.List.{List}
 use native.Mathlib.Omega.{arith}
 use Rattle.text.proofs.Tests.{inside_is, both_true}
-use Rattle.reasons.specs.Reasons.{Outcome, gives, refuses, and_then}
+use Rattle.reasons.specs.Reasons.{Outcome, gives, refuses, and_then, said}
 use Rattle.reasons.proofs.Laws.{passed}
 use Rattle.slots.specs.Journal.{slots_of, place}
-use Rattle.slots.specs.declared.Newest.{Newest}
-use Rattle.slots.specs.declared.Newest.TheVariants.{Malformed, Is}
 use Rattle.slots.proofs.Ring.{place_in}
 use Rattle.held.specs.Held.{low_of, held_after, first_of, Tallies}
 use Rattle.held.specs.declared.Tallied.{Tallied}
-use Rattle.held.specs.declared.Shown.{Shown}
-use Rattle.held.specs.Rules.{Telling, tell_rule, said_shown}
-use Rattle.held.proofs.Laws.{shown_one}
+use Rattle.held.specs.Rules.{tell_rule}
+use Rattle.held.specs.declared.Told.{Told}
+use Rattle.reasons.specs.declared.Reason.{Reason}
+use Rattle.reasons.proofs.Laws.{said_one}
 use Rattle.walker.specs.Walk.{held_here, held_rule, next_of}
 use Rattle.walker.specs.Steps.{first_above, walk_place, walk_rule, start_rule, step_rule}
 
 -- find_held has one outcome
-pub one_found : (j : List ℕ) (s : ℕ) (r q : Shown) → said_shown r ≡ held_rule j s → said_shown q ≡ held_rule j s → r ≡ q
-one_found j s r q a b = shown_one r q (a ∙ sym b)
+pub one_found : (j : List ℕ) (s : ℕ) (r q : Result ℕ Reason) → said r ≡ held_rule j s → said q ≡ held_rule j s → r ≡ q
+one_found j s r q a b = said_one r q (a ∙ sym b)
 
 -- ---- above a serial
 
@@ -42,19 +42,19 @@ pub place_there : (j : List ℕ) (s r : ℕ) → (s ≡ 0 → ⊥) → r ≡ pla
 place_there j zero r h e = absurd (h refl)
 place_there j (suc s) r h e = e
 
-pub walk_bad : (j : List ℕ) (s : ℕ) → refuses 16 ≡ walk_rule Malformed j s
+pub walk_bad : (j : List ℕ) (s : ℕ) → refuses 16 ≡ walk_rule None j s
 unfolding walk_rule
 walk_bad j s = refl
 
-pub walk-given : (j : List ℕ) (b above s at : ℕ) → s ≡ first_above j b above → at ≡ walk_place j s → gives (s, at) ≡ walk_rule (Is b) j above
+pub walk-given : (j : List ℕ) (b above s at : ℕ) → s ≡ first_above j b above → at ≡ walk_place j s → gives (s, at) ≡ walk_rule (Some b) j above
 unfolding walk_rule
 walk-given j b above s at e f = ap {B = Outcome (ℕ × ℕ)} gives (ap (λ (p : ℕ). (s, p)) f ∙ ap (λ (t : ℕ). (t, walk_place j t)) e)
 
 -- ---- a start and its steps
 
-pub start_told : (m : Newest) (j : List ℕ) (o : Outcome Telling) → o ≡ tell_rule m j → and_then o (λ t. gives t.oldest) ≡ start_rule m j
+pub start_told : (m : Option ℕ) (j : List ℕ) (o : Outcome Told) → o ≡ tell_rule m j → and_then o (λ t. gives t.oldest) ≡ start_rule m j
 unfolding start_rule
-start_told m j o e = ap (λ (o : Outcome Telling). and_then o (λ t. gives t.oldest)) e
+start_told m j o e = ap (λ (o : Outcome Told). and_then o (λ t. gives t.oldest)) e
 
 pub step_found : (j : List ℕ) (s : ℕ) (o : Outcome ℕ) → o ≡ held_rule j s → and_then o (λ at. gives (at, next_of j s)) ≡ step_rule j s
 unfolding step_rule

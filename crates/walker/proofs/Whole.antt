@@ -1,4 +1,5 @@
 -- Whole walks by steps: on a well-formed journal they give the held list, each record once, then say done.
+use Rattle.std.proofs.Common.{Some}
 use Prim.Native.Nat.{ℕ, zero, suc, max, ◌≤◌, ◌<◌, ◌+◌, ◌-◌}
 use mathlib.Core.Path.{◌≡◌, refl, sym, ap, ◌∙◌, subst, subst⁻¹}
 use mathlib.Core.Bool.{Bool, true, cond}
@@ -9,7 +10,6 @@ use lib.ListN.{take, drop}
 use Rattle.reasons.specs.Reasons.{gives}
 use Rattle.slots.specs.Record.{is_held}
 use Rattle.slots.specs.Journal.{slots_of, place, state_of, Formed}
-use Rattle.slots.specs.declared.Newest.TheVariants.{Is}
 use Rattle.held.specs.Held.{record_at, held_after, held_list, low_of, first_of}
 use Rattle.held.specs.Rules.{tell_rule}
 use Rattle.held.proofs.Lists.{held_up}
@@ -51,7 +51,7 @@ module _ (j : List ℕ) {P : ℕ → ℕ × ℕ → Type 0} (one : (s : ℕ) (y 
 -- ---- the steps of the rules
 
 abbrev pub anew : List ℕ → ℕ → ℕ → ℕ × ℕ → Type 0
-anew j b s y = walk_rule (Is b) j s ≡ gives y
+anew j b s y = walk_rule (Some b) j s ≡ gives y
 
 abbrev pub steps : List ℕ → ℕ → ℕ × ℕ → Type 0
 steps j s y = step_rule j s ≡ gives y
@@ -133,7 +133,7 @@ module _ (j : List ℕ) (b : ℕ) (f : Formed j (slots_of j) b) where
             (subst (λ (x : ℕ). Onward j (steps j) 0 (held_after j (slots_of j) s x)) o onward_done))
 
     -- the same of a start that checks the journal, and steps that don't
-    pub onward_all : (s : ℕ) → start_rule (Is b) j ≡ gives s → Onward j (steps j) s (held_list j b)
+    pub onward_all : (s : ℕ) → start_rule (Some b) j ≡ gives s → Onward j (steps j) s (held_list j b)
     unfolding start_rule tell_rule
     onward_all s e = go (cc e) (first_held j (slots_of j) (low_of j b) (b - low_of j b))
       where

@@ -1,9 +1,8 @@
 -- A walk by steps, for callers who hold no walker: each step is asked for by a serial.
-use Rattle.std.specs.Prelude.{ℕ, zero, suc, max, ◌-◌, ◌≡◌, List, [], ◌∷◌, take, drop}
+use Rattle.std.specs.Prelude.{ℕ, zero, suc, max, ◌-◌, ◌≡◌, List, [], ◌∷◌, take, drop, Option}
 use Rattle.reasons.specs.Reasons.{Outcome, gives, demand, and_then}
 use Rattle.slots.specs.Journal.{slots_of, place}
 use Rattle.slots.specs.Views.{formed, newest}
-use Rattle.slots.specs.declared.Newest.{Newest}
 use Rattle.held.specs.Held.{low_of, held_after, first_of}
 use Rattle.held.specs.Rules.{tell_rule}
 use Rattle.walker.specs.Walk.{held_rule, next_of}
@@ -20,13 +19,13 @@ walk_place j zero = 0
 walk_place j (suc s) = place (slots_of j) (suc s)
 
 -- the first held record above s: its serial, and where it begins
-unfoldable pub walk_rule : Newest → List ℕ → ℕ → Outcome (ℕ × ℕ)
+unfoldable pub walk_rule : Option ℕ → List ℕ → ℕ → Outcome (ℕ × ℕ)
 walk_rule m j s = demand (formed m) 16 (gives (first_above j (newest m) s, walk_place j (first_above j (newest m) s)))
 
 -- ---- a start that checks the journal, and steps that don't
 
 -- the oldest held serial, 0 for none
-unfoldable pub start_rule : Newest → List ℕ → Outcome ℕ
+unfoldable pub start_rule : Option ℕ → List ℕ → Outcome ℕ
 start_rule m j = and_then (tell_rule m j) (λ t. gives t.oldest)
 
 -- the record of serial s, where it stands held in its slot: where it begins, and the serial after, 0 for done

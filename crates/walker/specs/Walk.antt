@@ -1,5 +1,5 @@
 -- What a walker gives: the record of its serial, the serial after, and the whole walk.
-use Rattle.std.specs.Prelude.{ℕ, zero, suc, ◌+◌, ◌≡◌, Bool, not, cond, ◌&&◌, List, [], ◌∷◌, ◌++◌, eqb}
+use Rattle.std.specs.Prelude.{ℕ, zero, suc, ◌+◌, ◌-◌, ◌≡◌, Bool, not, cond, ◌&&◌, List, [], ◌∷◌, ◌++◌, eqb}
 use Rattle.text.specs.Bytes.{within}
 use Rattle.reasons.specs.Reasons.{Outcome, gives, demand, after, number_in}
 use Rattle.slots.specs.Record.{is_held, serial_at}
@@ -7,6 +7,7 @@ use Rattle.slots.specs.Journal.{slots_of, place, state_of}
 use Rattle.slots.specs.Views.{Seen}
 use Rattle.held.specs.Held.{record_at}
 use Rattle.held.specs.Rules.{tell_rule}
+use Rattle.walker.specs.declared.Walker.{Walker}
 
 -- the record of serial s stands held in its slot; any journal and any serial may be asked for, also by a walker put together by hand
 unfoldable pub held_here : List ℕ → ℕ → Bool
@@ -39,3 +40,12 @@ given j s = cond (held_here j s) (record_at j (slots_of j) s ∷ []) []
 unfoldable pub walk : List ℕ → ℕ → ℕ → List (List ℕ)
 walk j s zero = []
 walk j s (suc steps) = cond (eqb s 0) [] (given j s ++ walk j (next_of j s) steps)
+
+-- the records from serial s on, each after the one before, until there is none, in at most so many steps
+unfoldable pub on_from : List ℕ → ℕ → ℕ → List (List ℕ)
+on_from j s zero = []
+on_from j s (suc steps) = cond (held_here j s) (record_at j (slots_of j) s ∷ on_from j (next_of j s) steps) []
+
+-- what is to come from a walker: serials rise, so that it is done after so many steps
+abbrev pub to_come : Walker → List (List ℕ)
+to_come w = on_from w.journal.now w.next (4294967296 - w.next)

@@ -4,10 +4,11 @@
 pub mod inner;
 
 ghost use Rattle.std.specs.Prelude.{◌≡◌};
-ghost use Rattle.held.specs.Rules.{Shows, said_shown};
-ghost use Rattle.walker.specs.Walk.{held_rule, next_of, StartsAt, StartNumber};
+ghost use Rattle.reasons.specs.Reasons.{said};
+ghost use Rattle.held.specs.Rules.{Shows};
+ghost use Rattle.std.specs.Iterator.{YieldsFirstRef, item_count};
+ghost use Rattle.walker.specs.Walk.{held_rule, next_of, StartsAt, StartNumber, to_come};
 
-use held::{Shown, Told};
 use reasons::Reason;
 
 // `next` is the serial of the record that comes next, 0 for done.
@@ -20,27 +21,27 @@ pub struct Walker<'a> {
 // ---- the covered functions, on the journal and a serial
 
 // Where the record of serial s begins, if it stands held in its slot.
-pub fn find_held(j: &[u8], s: u32) -> Shown
-    ensures { said_shown result ≡ held_rule j.now s }
+pub fn find_held(j: &[u8], s: u32) -> Result<usize, Reason>
+    ensures { said result ≡ held_rule j.now s }
 {
     let n = j.len() / 32;
     if n < 1 {
-        return Shown::Refused(Reason::NoSerial);
+        return Err(Reason::NoSerial);
     }
     if 2048 < n {
-        return Shown::Refused(Reason::NoSerial);
+        return Err(Reason::NoSerial);
     }
     if s == 0 {
-        return Shown::Refused(Reason::NoSerial);
+        return Err(Reason::NoSerial);
     }
     let at = slots::place_of(n, s);
     if text::u32_at(j, at) != s {
-        return Shown::Refused(Reason::NoSerial);
+        return Err(Reason::NoSerial);
     }
     if slots::is_held(j[at + 15]) {
-        return Shown::At(at);
+        return Ok(at);
     }
-    Shown::Refused(Reason::NoSerial)
+    Err(Reason::NoSerial)
 }
 
 // The held record of serial s, a part of the journal, or the empty part at its start.
@@ -48,8 +49,8 @@ pub fn held_at(j: &[u8], s: u32) -> &[u8]
     ensures { Shows j.entry (held_rule j.now s) result }
 {
     match find_held(j, s) {
-        Shown::At(at) => &j[at..at + 32],
-        Shown::Refused(_) => &j[..0],
+        Ok(at) => &j[at..at + 32],
+        Err(_) => &j[..0],
     }
 }
 
@@ -64,8 +65,8 @@ pub fn next_of(j: &[u8], s: u32) -> u32
         return 0;
     }
     match find_held(j, s + 1) {
-        Shown::At(_) => s + 1,
-        Shown::Refused(_) => 0,
+        Ok(_) => s + 1,
+        Err(_) => 0,
     }
 }
 
@@ -73,10 +74,7 @@ pub fn next_of(j: &[u8], s: u32) -> u32
 pub fn oldest(j: &[u8]) -> u32
     ensures { StartsAt j.now result }
 {
-    match held::tell(j) {
-        Told::Held(_, _, o, _) => o,
-        Told::Refused(_) => 0,
-    }
+    held::tell(j).map_or(0, |told| told.oldest)
 }
 
 // The number of the reason for which `start` gives a walker that is done, 0 where the journal is well formed.
@@ -84,8 +82,8 @@ pub fn start_number(j: &[u8]) -> u32
     ensures { StartNumber j.now result }
 {
     match held::tell(j) {
-        Told::Held(_, _, _, _) => 0,
-        Told::Refused(r) => reasons::number(r),
+        Ok(_) => 0,
+        Err(why) => reasons::number(why),
     }
 }
 
@@ -116,5 +114,23 @@ pub fn moved<'a>(w: Walker<'a>) -> Walker<'a>
     Walker {
         journal: w.journal,
         next: n,
+    }
+}
+
+// The held records from the walker's place on, up to done.
+impl<'a> Iterator for Walker<'a> {
+    type Item = &'a [u8];
+
+    ghost next_gives = { YieldsFirstRef to_come };
+
+    ghost remaining = { item_count to_come };
+
+    fn next(&mut self) -> Option<&'a [u8]> {
+        let given = held_at(self.journal, self.next);
+        if given.is_empty() {
+            return None;
+        }
+        self.next = next_of(self.journal, self.next);
+        Some(given)
     }
 }

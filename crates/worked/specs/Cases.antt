@@ -1,12 +1,12 @@
 -- The worked cases of document 01, and a fleet card for request E1, as lists, and what it means that a case holds: over the definitions that the
 -- promises use.
-use Rattle.std.specs.Prelude.{ℕ, zero, suc, ◌+◌, ◌-◌, ◌/◌, ◌%◌, ◌≤◌, ◌≡◌, Bool, true, false, List, [], ◌∷◌, ◌++◌, reverse, eqb, length, take, drop, replicate}
+use Rattle.std.specs.Prelude.{ℕ, zero, suc, ◌+◌, ◌-◌, ◌/◌, ◌%◌, ◌≤◌, ◌≡◌, Bool, true, false, Result, List, [], ◌∷◌, ◌++◌, reverse, eqb, length, take, drop, replicate}
 use Prim.Native.String.{String}
 use Rattle.std.specs.Int.Bits.{bit_xor}
 use Rattle.text.specs.Bytes.{bytes_of}
 use Rattle.text.specs.Numbers.{put}
 use Rattle.reasons.specs.Reasons.{gives, refuses, said, number_in}
-use Rattle.reasons.specs.declared.Tested.{Tested}
+use Rattle.reasons.specs.declared.Reason.{Reason}
 use Rattle.luhn.specs.Luhn.{luhn_rule}
 use Rattle.pan.specs.Pan.{Masks}
 use Rattle.creditor.specs.Creditor.{creditor_rule}
@@ -18,8 +18,7 @@ use Rattle.track2.specs.Track2.{track2}
 use Rattle.track1.specs.Track1.{track1}
 use Rattle.layout.specs.Layout.{Cut}
 use Rattle.layout1.specs.Layout1.{layout1_rule, pan_cut, name_cut, expiry_cut, service_cut, rest_cut}
-use Rattle.journal.specs.Rules.{Books, said_booked}
-use Rattle.journal.specs.declared.Booked.{Booked}
+use Rattle.journal.specs.Rules.{Books}
 
 -- ---- a track as it is written
 
@@ -103,10 +102,10 @@ Holds (track f t lrc bits count bit-count) = TrackHolds f (bytes_of t) (inner (b
 Holds (divides t pan name expiry service rest) =
     DivisionHolds (bytes_of t) (bytes_of pan) (bytes_of name) (bytes_of expiry) (bytes_of service) (bytes_of rest)
 Holds (masks pan text) =
-    (out : List ℕ) (r : Tested) (k : List ℕ) → length (bytes_of pan) ≤ length out → Masks (bytes_of pan) out r k
+    (out : List ℕ) (r : Result (Unit {0}) Reason) (k : List ℕ) → length (bytes_of pan) ≤ length out → Masks (bytes_of pan) out r k
     → (said r ≡ gives tt) × (k ≡ put out 0 (bytes_of text))
 Holds (books pan label amount clock bytes) =
-    (r : Booked) (k : List ℕ) → Books (replicate 32 0) (bytes_of pan) label amount clock r k → (said_booked r ≡ gives 1) × (k ≡ bytes)
+    (r : Result ℕ Reason) (k : List ℕ) → Books (replicate 32 0) (bytes_of pan) label amount clock r k → (said r ≡ gives 1) × (k ≡ bytes)
 
 -- every case of a list holds
 infixr 60 ◌and◌

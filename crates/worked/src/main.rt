@@ -2,20 +2,17 @@
 // cases that no line can ask for.
 #![tactic(auto)]
 
+use keeping::Desk;
 use waiting::{Output, Streams};
 
-fn end(out: &mut Output) {
-    waiting::flush(out);
-}
-
 fn more(streams: Streams) {
-    let mut out = waiting::nothing(streams);
+    let mut out = Output::new(streams);
     part_cases::run(&mut out);
     length_cases::run(&mut out);
     list_cases::run(&mut out);
     box_cases::run(&mut out);
     radio_cases::run(&mut out);
-    end(&mut out);
+    out.flush();
 }
 
 fn main(rt: HostRuntime) {
@@ -24,7 +21,7 @@ fn main(rt: HostRuntime) {
         output: rt.stdout(),
         errors: rt.stderr(),
     };
-    let mut journal = [0u8; 65537];
-    commands::run(streams, &mut journal, keeping::in_memory(true));
+    let mut desk = Desk::new(true);
+    commands::run(streams, &mut desk);
     more(streams);
 }

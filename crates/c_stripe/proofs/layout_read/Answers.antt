@@ -1,55 +1,34 @@
-use Prim.Native.Nat.{ℕ, ◌≤◌, ◌<◌}
-use mathlib.Core.List.{List}
-use mathlib.Core.Path.{◌≡◌, sym, ap, ◌∙◌}
+use Prim.Native.Nat.{◌≤◌, ◌<◌}
+use mathlib.Core.Path.{sym}
 use native.Mathlib.Omega.{arith}
-use Rattle.reasons.specs.Reasons.{Outcome, gives}
-use Rattle.layout.specs.Layout.{Places, layout_rule, said, field_cut}
 use Rattle.layout.proofs.Laws.{places_small}
-use Rattle.c_stripe.specs.Values.{starts_of}
-use Rattle.hands.specs.Hands.{Hands}
-use Rattle.hands.proofs.Handed.{gave, kept, behind_is}
-use Rattle.c_stripe.proofs.Readings.{same_start}
+use Rattle.c_stripe.specs.Values.{start_of}
+use Rattle.hands.proofs.Handed.{gave, kept}
+use Rattle.c_stripe.proofs.Readings.{start_is}
 use Rattle.c_stripe.proofs.layout_read.Goals as goal
-
--- what C gets of a division into the places d, the starts of whose fields were told apart from their sizes
-divided_so : (o : Outcome Places) (x : ℕ × ℕ × ℕ × ℕ) (d : Places) (e s : ℕ) → e ≡ (field_cut 0 d.expiry).start → s ≡ (field_cut 0 d.service).start
-    → gives d ≡ o → Hands o x starts_of 0 (d.pan, e, s, d.rest)
-divided_so o x d e s f g is =
-    let t = f ∙ same_start d.expiry 0 4 in
-    let v = g ∙ same_start d.service 0 3 in
-    behind_is _ _ _ _ _ _ (λ i. (d.pan, t i, v i, d.rest)) (gave _ _ _ d is)
+use Rattle.c_stripe.proofs.layout_read.Goals.{In-Ok}
 
 -- where the parts of a division are, in few bytes
-small : (s : List ℕ) (d : Places) → gives d ≡ layout_rule s
-    → (d.pan ≤ 19) × ((field_cut 0 d.expiry).start < 100) × ((field_cut 0 d.service).start < 100) × (d.rest ≤ 55)
-small s d is =
-    let h = places_small s d (sym is) in
-    (h.0, omega (arith, h, same_start d.expiry 0 4), omega (arith, h, same_start d.service 0 3), omega (arith, h))
-
-pub returns-in-Fields : goal.returns-in-Fields
-returns-in-Fields c =
-    let rule_is : gives (record { pan = c.in-Fields.p; expiry = c.in-Fields.e; service = c.in-Fields.v; rest = c.in-Fields.r }) ≡ layout_rule c.args.chars.now = sym (ap said c.in-Fields.is) ∙ c.divide.ensures in
-    divided_so _ _ (record { pan = c.in-Fields.p; expiry = c.in-Fields.e; service = c.in-Fields.v; rest = c.in-Fields.r }) _ _ c.place.ensures c.place-in-Fields.ensures rule_is
-
-pub returns-in-Refused : goal.returns-in-Refused
-returns-in-Refused c = kept _ _ _ _ _ c.number.ensures (sym (ap said c.in-Refused.is) ∙ c.divide.ensures)
+small : (c : In-Ok) → (c.in-Ok.d.pan ≤ 19) × (start_of c.in-Ok.d.expiry < 100) × (start_of c.in-Ok.d.service < 100) × (c.in-Ok.d.rest ≤ 27)
+small c =
+    let d = c.in-Ok.d in
+    let h = places_small c.args.chars.now d (sym c.in-Ok.ensures) in
+    (h.0, omega (arith, h, start_is d.expiry 4), omega (arith, h, start_is d.service 3), h.3)
 
 pub overflow_cast-pan : goal.overflow_cast-pan
-overflow_cast-pan c =
-    let h = small c.args.chars.now _ (sym (ap said c.in-Fields.is) ∙ c.divide.ensures) in
-    omega (arith, h)
+overflow_cast-pan c = omega (arith, small (goal.at.overflow_cast-pan c).In-Ok)
 
 pub place-requires : goal.place-requires
-place-requires c =
-    let h = small c.args.chars.now _ (sym (ap said c.in-Fields.is) ∙ c.divide.ensures) in
-    h.1
+place-requires c = (small (goal.at.place-requires c).In-Ok).1
 
-pub place-requires-in-Fields : goal.place-requires-in-Fields
-place-requires-in-Fields c =
-    let h = small c.args.chars.now _ (sym (ap said c.in-Fields.is) ∙ c.divide.ensures) in
-    h.2
+pub place-requires-in-Ok : goal.place-requires-in-Ok
+place-requires-in-Ok c = (small (goal.at.place-requires-in-Ok c).In-Ok).2
 
 pub overflow_cast-rest : goal.overflow_cast-rest
-overflow_cast-rest c =
-    let h = small c.args.chars.now _ (sym (ap said c.in-Fields.is) ∙ c.divide.ensures) in
-    omega (arith, h)
+overflow_cast-rest c = omega (arith, small (goal.at.overflow_cast-rest c).In-Ok)
+
+pub returns-in-Ok : goal.returns-in-Ok
+returns-in-Ok c = rw (c.place.ensures, c.place-in-Ok.ensures) (gave _ _ _ c.in-Ok.d c.in-Ok.ensures)
+
+pub returns-in-Err : goal.returns-in-Err
+returns-in-Err c = kept _ _ _ _ _ c.number.ensures c.in-Err.ensures

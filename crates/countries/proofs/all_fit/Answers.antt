@@ -1,26 +1,12 @@
-use mathlib.Core.Path.{refl, sym, ◌∙◌}
-use native.Mathlib.Omega.{arith}
-use Rattle.text.proofs.Every.{end, turn_yes, turn_no}
-use Rattle.countries.specs.Stored.{kind_of}
+use mathlib.Core.Path.{◌∙◌}
+use Rattle.std.proofs.Common.{rules, tests}
+use Rattle.std.proofs.lemmas.Iterator.{YieldsList-from_slice}
+use Rattle.std.proofs.lemmas.Iterator.Search.{all_from_yields_List}
 use Rattle.countries.specs.Countries.{kind_fits}
+use Rattle.countries.proofs.Fits.{every_all}
 use Rattle.countries.proofs.all_fit.Goals as goal
-
-pub loop-i-init : goal.loop-i-init
-loop-i-init c = (omega arith, refl)
-
-pub returns-then-not-kind_fits : goal.returns-then-not-kind_fits
-returns-then-not-kind_fits c =
-    let g = c.args in
-    let no = sym c.kind_fits.ensures ∙ c.if-not-kind_fits.true in
-    turn_no (kind_fits (kind_of g.k)) g.s.now c.loop-i.i _ (omega arith) c.loop-i.invariant.1 no
-
-pub loop-i-preserved : goal.loop-i-preserved
-loop-i-preserved c =
-    let g = c.args in
-    let yes = sym c.kind_fits.ensures ∙ c.if-not-kind_fits.false in
-    (omega arith, turn_yes (kind_fits (kind_of g.k)) g.s.now c.loop-i.i _ (omega arith) c.loop-i.invariant.1 yes)
 
 pub returns : goal.returns
 returns c =
-    let g = c.args in
-    sym (end (kind_fits (kind_of g.k)) g.s.now c.loop-i.i (omega arith)) ∙ c.loop-i.invariant.1
+    all_from_yields_List (kind_fits c.args.kind) _ _ _ c.all.ensures.ran (YieldsList-from_slice c.args.s.now cc) (λ x b q k. search (rules, tests))
+    ∙ every_all (kind_fits c.args.kind) c.args.s.now

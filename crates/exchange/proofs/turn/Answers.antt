@@ -1,28 +1,23 @@
-use mathlib.Core.Path.{refl, ◌∙◌}
+use Rattle.std.proofs.Common.{ℕ, List, rules, subst, ◌∙◌}
 use Rattle.exchange.specs.Exchange.{send, deliver}
-use Rattle.exchange.proofs.Turned.{took_sent, took_call, is_send, is_deliver, is_answer, is_own, as_turn}
-use borrow.Author.Rules.{rules}
+use Rattle.exchange.specs.Inner.{Heard}
+use Rattle.exchange.proofs.Turned.{nothing_yet, took_sent, took_heard, took_call, is_send, is_deliver, is_answer, is_own, as_turn}
 use Rattle.exchange.proofs.turn.Goals as goal
 
-pub returns-then-kind-eq5 : goal.returns-then-kind-eq5
-returns-then-kind-eq5 c =
-    let a = c.args in
-    let q = c.quiet.ensures in
-    as_turn _ _ _ _ _ _ ((λ i. send (c.u32_at.ensures i) (c.u32_at-then-kind-eq5.ensures i)) ∙ is_send a.script.now _ _ a.at (search rules))
-    (took_sent _ _ _ q.2 _ _ _ q.0 q.1 c.send.ensures)
+pub returns-in-5 : goal.returns-in-5
+returns-in-5 c =
+    as_turn _ _ _ _ ((λ i. send (c.u32_at.ensures i) (c.u32_at-place.ensures i)) ∙ is_send c.args.r.now _ _ 0 (search rules))
+    (took_sent _ _ _ (nothing_yet _ c.default.ensures) _ _ _ c.send.ensures)
 
-pub returns-then-kind-eq6 : goal.returns-then-kind-eq6
-returns-then-kind-eq6 c =
-    let a = c.args in
-    as_turn _ _ _ _ _ _ ((λ i. deliver (c.u32_at-then-kind-eq6.ensures i)) ∙ is_deliver a.script.now _ _ a.at (search rules)) (c.hear.ensures _ _ _)
+pub returns-in-6 : goal.returns-in-6
+returns-in-6 c =
+    as_turn _ _ _ _ ((λ i. deliver (c.u32_at-place.ensures i)) ∙ is_deliver c.args.r.now _ _ 0 (search rules))
+    (took_heard _ _ _ _ _ _ _ _ (nothing_yet _ c.default-in-6.ensures)
+    (subst (λ (m : List ℕ). Heard c.args.host.now m c.hear.new.self) c.piece.ensures.bytes c.hear.ensures))
 
-pub returns-then-kind-eq7 : goal.returns-then-kind-eq7
-returns-then-kind-eq7 c =
-    let a = c.args in
-    as_turn _ _ _ _ _ _ (is_answer a.script.now _ _ a.at (search rules)) (c.answer.ensures _ _)
+pub returns-in-7 : goal.returns-in-7
+returns-in-7 c = as_turn _ _ _ _ (is_answer c.args.r.now _ _ 0 (search rules)) (c.answer.ensures _ _)
 
-pub returns : goal.returns
-returns c =
-    let a = c.args in
-    as_turn _ _ _ _ _ _ (is_own a.script.now _ _ a.at (search rules) (search rules) (search rules))
-    (took_call _ _ _ _ _ _ refl refl c.own_call.ensures)
+pub returns-in_default : goal.returns-in_default
+returns-in_default c =
+    as_turn _ _ _ _ (is_own c.args.r.now _ _ 0 (search rules) (search rules) (search rules)) (took_call _ _ _ _ _ _ c.own_call.ensures)

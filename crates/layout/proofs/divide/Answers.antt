@@ -1,6 +1,6 @@
 use mathlib.Core.Path.{sym, ◌∙◌}
 use native.Mathlib.Omega.{arith}
-use Rattle.layout.proofs.Fields.{few, many, unmarked, marked}
+use Rattle.layout.proofs.Steps.{few, many, unmarked, marked}
 use Rattle.layout.proofs.divide.Goals as goal
 
 pub returns-then-pan-lt13 : goal.returns-then-pan-lt13

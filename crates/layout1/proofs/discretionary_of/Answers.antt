@@ -1,17 +1,17 @@
 use mathlib.Core.Path.{sym, ap, ◌∙◌}
 use native.Mathlib.Omega.{arith}
-use Rattle.layout1.specs.Layout1.{said}
+use Rattle.reasons.specs.Reasons.{said}
 use Rattle.layout1.proofs.Laws.{rest_fits}
 use Rattle.layout1.proofs.discretionary_of.Goals as goal
 
 pub overflow_sub-chars : goal.overflow_sub-chars
-overflow_sub-chars c = rest_fits _ _ (sym c.divide.ensures ∙ ap said c.in-Fields.is)
+overflow_sub-chars c = rest_fits _ _ (sym c.divide.ensures ∙ ap said c.in-Ok.is)
 
 pub cut-requires : goal.cut-requires
-cut-requires c = omega (arith, rest_fits _ _ (sym c.divide.ensures ∙ ap said c.in-Fields.is))
+cut-requires c = omega (arith, rest_fits _ _ (sym c.divide.ensures ∙ ap said c.in-Ok.is))
 
-pub returns-in-Fields : goal.returns-in-Fields
-returns-in-Fields c = rw (sym c.divide.ensures ∙ ap said c.in-Fields.is) c.cut.ensures
+pub returns-in-Ok : goal.returns-in-Ok
+returns-in-Ok c = rw (sym c.divide.ensures ∙ ap said c.in-Ok.is) c.cut.ensures
 
-pub returns-in-Refused : goal.returns-in-Refused
-returns-in-Refused c = rw (sym c.divide.ensures ∙ ap said c.in-Refused.is) c.cut-in-Refused.ensures
+pub returns-in-Err : goal.returns-in-Err
+returns-in-Err c = rw (sym c.divide.ensures ∙ ap said c.in-Err.is) c.cut-in-Err.ensures

@@ -1,23 +1,23 @@
-use mathlib.Core.Path.{sym, ap, ◌∙◌}
 use Prim.Native.Nat.{◌+◌, ◌≤◌}
+use mathlib.Core.Path.{sym, ap, ◌∙◌}
 use native.Mathlib.Omega.{arith}
 use lib.ListN.{length}
-use Rattle.layout1.specs.Layout1.{said}
+use Rattle.reasons.specs.Reasons.{said}
 use Rattle.layout1.proofs.Laws.{name_fits}
 use Rattle.layout1.proofs.name_of.Goals as goal
+use Rattle.layout1.proofs.name_of.Goals.{In-Ok}
 
-pub overflow_add-pan : goal.overflow_add-pan
-overflow_add-pan c =
-    let fits : c.in-Fields.pan + 2 + c.in-Fields.name ≤ length c.args.chars.now = name_fits _ _ (sym c.divide.ensures ∙ ap said c.in-Fields.is) in
-    omega (arith, fits)
+fits : (c : In-Ok) → c.in-Ok.d.pan + 2 + c.in-Ok.d.name ≤ length c.args.chars.now
+fits c = name_fits _ _ (sym c.divide.ensures ∙ ap said c.in-Ok.is)
+
+pub overflow_add-d : goal.overflow_add-d
+overflow_add-d c = omega (arith, fits (goal.at.overflow_add-d c).In-Ok)
 
 pub cut-requires : goal.cut-requires
-cut-requires c =
-    let fits : c.in-Fields.pan + 2 + c.in-Fields.name ≤ length c.args.chars.now = name_fits _ _ (sym c.divide.ensures ∙ ap said c.in-Fields.is) in
-    omega (arith, fits)
+cut-requires c = omega (arith, fits (goal.at.cut-requires c).In-Ok)
 
-pub returns-in-Fields : goal.returns-in-Fields
-returns-in-Fields c = rw (sym c.divide.ensures ∙ ap said c.in-Fields.is) c.cut.ensures
+pub returns-in-Ok : goal.returns-in-Ok
+returns-in-Ok c = rw (sym c.divide.ensures ∙ ap said c.in-Ok.is) c.cut.ensures
 
-pub returns-in-Refused : goal.returns-in-Refused
-returns-in-Refused c = rw (sym c.divide.ensures ∙ ap said c.in-Refused.is) c.cut-in-Refused.ensures
+pub returns-in-Err : goal.returns-in-Err
+returns-in-Err c = rw (sym c.divide.ensures ∙ ap said c.in-Err.is) c.cut-in-Err.ensures

@@ -1,13 +1,13 @@
 use mathlib.Core.Path.{sym, ap, ◌∙◌}
-use Rattle.layout1.specs.Layout1.{said}
+use Rattle.reasons.specs.Reasons.{said}
 use Rattle.layout1.proofs.Laws.{service_fits}
 use Rattle.layout1.proofs.service_of.Goals as goal
 
 pub field_of-requires : goal.field_of-requires
-field_of-requires c = service_fits _ _ (sym c.divide.ensures ∙ ap said c.in-Fields.is)
+field_of-requires c = service_fits _ _ (sym c.divide.ensures ∙ ap said c.in-Ok.is)
 
-pub returns-in-Fields : goal.returns-in-Fields
-returns-in-Fields c = rw (sym c.divide.ensures ∙ ap said c.in-Fields.is) c.field_of.ensures
+pub returns-in-Ok : goal.returns-in-Ok
+returns-in-Ok c = rw (sym c.divide.ensures ∙ ap said c.in-Ok.is) c.field_of.ensures
 
-pub returns-in-Refused : goal.returns-in-Refused
-returns-in-Refused c = rw (sym c.divide.ensures ∙ ap said c.in-Refused.is) c.cut.ensures
+pub returns-in-Err : goal.returns-in-Err
+returns-in-Err c = rw (sym c.divide.ensures ∙ ap said c.in-Err.is) c.cut.ensures

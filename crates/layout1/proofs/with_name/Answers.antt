@@ -1,10 +1,11 @@
-use mathlib.Core.Path.{sym, ap, ◌∙◌}
-use Rattle.layout.specs.Layout.{said}
-use Rattle.layout1.proofs.Steps.{fields_next}
+use Rattle.std.proofs.Common.{rules}
+use Rattle.layout1.specs.Layout1.{fields_rule}
 use Rattle.layout1.proofs.with_name.Goals as goal
 
-pub returns-in-Refused : goal.returns-in-Refused
-returns-in-Refused c = fields_next _ _ _ _ (sym (ap said c.in-Refused.is) ∙ c.with_expiry.ensures)
+pub returns-in_err-d : goal.returns-in_err-d
+unfolding fields_rule
+returns-in_err-d c = rw (← c.with_expiry.ensures, c.in_err-d.was) (search rules)
 
-pub returns-in-Fields : goal.returns-in-Fields
-returns-in-Fields c = fields_next _ _ _ _ (sym (ap said c.in-Fields.is) ∙ c.with_expiry.ensures)
+pub returns : goal.returns
+unfolding fields_rule
+returns c = rw (← c.with_expiry.ensures, c.in_ok-d.was)

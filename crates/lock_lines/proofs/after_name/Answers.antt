@@ -9,12 +9,14 @@ use Rattle.lock_lines.proofs.after_name.Goals.{then-closes, else-closes}
 pub loop-i-preserved : goal.loop-i-preserved
 loop-i-preserved c =
     let s = c.args.stat.now in
+    let l = c.loop-i in
     elim c.if-closes.branch [
-      | then-closes w ↦ (omega arith, last_here s c.loop-i.i c.loop-i.at c.if-closes.at (omega arith) w.if-closes.true (omega arith) ∙ c.loop-i.invariant.1)
-      | else-closes w ↦ (omega arith, last_other s c.loop-i.i c.loop-i.at c.if-closes.at (omega arith) w.if-closes.false (omega arith) ∙ c.loop-i.invariant.1)
+      | then-closes w ↦ (omega arith, last_here s l.i l.at c.if-closes.at (omega arith) w.if-closes.true (omega arith) ∙ l.invariant.1)
+      | else-closes w ↦ (omega arith, last_other s l.i l.at c.if-closes.at (omega arith) w.if-closes.false (omega arith) ∙ l.invariant.1)
     ]
 
 pub returns : goal.returns
 returns c =
     let s = c.args.stat.now in
-    take_all (length s - c.loop-i.at) _ (omega (arith, length-drop c.loop-i.at s)) ∙ last_end s c.loop-i.i c.loop-i.at (omega arith) ∙ c.loop-i.invariant.1
+    let l = c.loop-i in
+    take_all (length s - l.at) _ (omega (arith, length-drop l.at s)) ∙ last_end s l.i l.at (omega arith) ∙ l.invariant.1

@@ -1,10 +1,9 @@
-use mathlib.Core.Path.{sym, ap, ◌∙◌}
-use Rattle.luhn.specs.Sum.{said_sum}
+use Rattle.std.proofs.lemmas.Result.{err_from_is_err_and}
 use Rattle.luhn.proofs.Rule.{make_of}
 use Rattle.luhn.proofs.make.Goals as goal
 
-pub returns-in-Refused : goal.returns-in-Refused
-returns-in-Refused c = make_of _ _ (sym (ap said_sum c.in-Refused.is) ∙ c.sum.ensures)
+pub returns-in_err-s : goal.returns-in_err-s
+returns-in_err-s c = let p = err_from_is_err_and c.from_residual.result c.from_residual.ensures.1 in rw (p.1, p.2) (make_of _ _ c.in_err-s.ensures)
 
-pub returns-in-Sum : goal.returns-in-Sum
-returns-in-Sum c = make_of _ _ (sym (ap said_sum c.in-Sum.is) ∙ c.sum.ensures)
+pub returns : goal.returns
+returns c = make_of _ _ c.in_ok-s.ensures

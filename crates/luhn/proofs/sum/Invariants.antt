@@ -1,9 +1,8 @@
--- `sum`: the loop's invariant is the record `At`, and its measure the index.
+-- `sum`: what is left of the text on the left, and what holds of the rest.
+use Prim.Native.Nat.{◌-◌}
+use lib.ListN.{length}
 use Rattle.luhn.proofs.Summing.{At}
 use Rattle.luhn.proofs.sum.Given as goal
 
-abbrev pub decreases-loop-i : goal.decreases-loop-i
-decreases-loop-i l = l.i
-
-abbrev pub invariant-loop-i : goal.invariant-loop-i
-invariant-loop-i l = At l.text l.double l.total l.twice l.i
+abbrev pub invariant-loop-b : goal.invariant-loop-b
+invariant-loop-b l = At l.text l.double l.total l.twice (length l.text - length l.yielded)

@@ -1,24 +1,22 @@
-use mathlib.Core.Path.{refl, sym, ◌∙◌}
+use mathlib.Core.Bool.{not}
+use mathlib.Core.Path.{sym, ap, ◌∙◌}
 use native.Mathlib.Omega.{arith}
-use Rattle.numerals.proofs.Pairs.{hex_yes, hex_no}
+use Rattle.numerals.proofs.Pairs.{some_hex}
 use Rattle.numerals.specs.Numbers.{is_hex}
 use Rattle.text.proofs.Every.{end, turn_yes, turn_no}
 use Rattle.numerals.proofs.all_hex.Goals as goal
 
-pub loop-i-init : goal.loop-i-init
-loop-i-init c = (omega arith, refl)
+pub returns-then-is_none : goal.returns-then-is_none
+returns-then-is_none c =
+    let l = c.loop-b in
+    let none = sym (some_hex _ _ c.hex_value.ensures) ∙ c.is_none.ensures ∙ ap not c.if-is_none.true in
+    turn_no is_hex c.args.w.now l.b-index _ (omega arith) l.invariant none
 
-pub returns-then-hex_value-ge16 : goal.returns-then-hex_value-ge16
-returns-then-hex_value-ge16 c =
-    turn_no is_hex c.args.w.now c.loop-i.i _ (omega arith) c.loop-i.invariant.1
-    (hex_no _ (let e = c.hex_value.ensures in omega arith))
-
-pub loop-i-preserved : goal.loop-i-preserved
-loop-i-preserved c = (
-  omega arith,
-  turn_yes is_hex c.args.w.now c.loop-i.i _ (omega arith) c.loop-i.invariant.1
-      (hex_yes _ (let e = c.hex_value.ensures in omega arith)),
-)
+pub loop-b-preserved : goal.loop-b-preserved
+loop-b-preserved c =
+    let l = c.loop-b in
+    let some = sym (some_hex _ _ c.hex_value.ensures) ∙ c.is_none.ensures ∙ ap not c.if-is_none.false in
+    turn_yes is_hex c.args.w.now l.b-index _ (omega arith) l.invariant some
 
 pub returns : goal.returns
-returns c = sym (end is_hex c.args.w.now c.loop-i.i (omega arith)) ∙ c.loop-i.invariant.1
+returns c = let l = c.loop-b in sym (end is_hex c.args.w.now l.b-index (omega arith)) ∙ l.invariant

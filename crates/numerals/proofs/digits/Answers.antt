@@ -1,50 +1,21 @@
-use Prim.Native.Nat.{ℕ, ◌+◌, ◌*◌, ◌≤◌}
-use borrow.Author.Tests.{ltb-true, ltb-false}
-use lib.ListN.{drop}
-use mathlib.Core.Path.{◌≡◌, refl, sym, ap, ◌∙◌}
+use borrow.Author.Tests.{ltb-false}
+use mathlib.Core.Path.{sym, ◌∙◌}
 use native.Mathlib.Omega.{arith}
-use Rattle.reasons.specs.Reasons.{gives}
-use Rattle.numerals.proofs.Pairs.{decimal_more, decimal_step}
-use Rattle.numerals.proofs.Rules.{digits_over, digits_fit}
-use Rattle.text.proofs.Numbers.{decimal_end}
-use Rattle.text.specs.Numbers.{decimal_after, decimal}
+use Rattle.numerals.proofs.Pairs.{decimal_step}
+use Rattle.numerals.proofs.Rules.{digit_over, digits_read}
 use Rattle.numerals.proofs.digits.Goals as goal
-
-pub loop-i-init : goal.loop-i-init
-loop-i-init c = (omega arith, refl, omega arith)
 
 pub returns-then-passes_over : goal.returns-then-passes_over
 returns-then-passes_over c =
-    let grown : ℕ = 10 * c.loop-i.v + c.digit_value-d.result in
-    let step : decimal_after grown (drop (c.loop-i.i + 1) c.args.w.now) ≡ decimal c.args.w.now = decimal_step c.args.w.now c.loop-i.v c.loop-i.i c.digit_value-d.result _ (omega arith) c.loop-i.invariant.1
-    c.digit_value-d.ensures.0 in
-    let s = c.args.w.now in
-    let most = c.args.most in
-    let o = ltb-true most grown (sym c.passes_over.ensures ∙ c.if-passes_over.true) in
-    digits_over s most (omega (arith, step, o, decimal_more (drop (c.loop-i.i + 1) s) grown))
+    let l = c.loop-b in
+    digit_over c.args.w.now l.v l.b-index c.args.most l.invariant.0 _ (omega arith) c.digit_value-d.ensures.0 (sym c.passes_over.ensures ∙ c.if-passes_over.true)
 
-pub overflow_mul-v : goal.overflow_mul-v
-overflow_mul-v c =
-    let grown : ℕ = 10 * c.loop-i.v + c.digit_value-d.result in
-    let held : grown ≤ c.args.most = ltb-false _ grown (sym c.passes_over.ensures ∙ c.if-passes_over.false) in
-    omega (arith, held, c.ranges.most)
-
-pub overflow_add-v : goal.overflow_add-v
-overflow_add-v c =
-    let grown : ℕ = 10 * c.loop-i.v + c.digit_value-d.result in
-    let held : grown ≤ c.args.most = ltb-false _ grown (sym c.passes_over.ensures ∙ c.if-passes_over.false) in
-    omega (arith, held, c.ranges.most)
-
-pub loop-i-preserved : goal.loop-i-preserved
-loop-i-preserved c =
-    let grown : ℕ = 10 * c.loop-i.v + c.digit_value-d.result in
-    let step : decimal_after grown (drop (c.loop-i.i + 1) c.args.w.now) ≡ decimal c.args.w.now = decimal_step c.args.w.now c.loop-i.v c.loop-i.i c.digit_value-d.result _ (omega arith) c.loop-i.invariant.1
-    c.digit_value-d.ensures.0 in
-    let held : grown ≤ c.args.most = ltb-false _ grown (sym c.passes_over.ensures ∙ c.if-passes_over.false) in
-    (omega arith, step, held)
+pub loop-b-preserved : goal.loop-b-preserved
+loop-b-preserved c =
+    let l = c.loop-b in (
+      decimal_step c.args.w.now l.v l.b-index _ _ (omega arith) l.invariant.0 c.digit_value-d.ensures.0,
+      ltb-false _ _ (sym c.passes_over.ensures ∙ c.if-passes_over.false),
+    )
 
 pub returns : goal.returns
-returns c =
-    let a = c.args in
-    let e = sym (decimal_end a.w.now c.loop-i.v c.loop-i.i (omega arith)) ∙ c.loop-i.invariant.1 in
-    ap gives e ∙ digits_fit a.w.now a.most (omega arith)
+returns c = let l = c.loop-b in digits_read c.args.w.now l.v l.b-index c.args.most l.invariant.0 (omega arith) l.invariant.1

@@ -1,88 +1,88 @@
 -- `card_at` asks Luhn, the tables, the expiry, then the hot list.
-use Prim.Native.Nat.{ℕ, ◌+◌, ◌-◌}
 use mathlib.Core.Path.{◌≡◌, sym, ap, ◌∙◌}
-use mathlib.Core.Bool.{true}
-use mathlib.Core.List.{List}
 use native.Mathlib.Omega.{arith}
+use Rattle.std.proofs.Common.{rules}
 use Rattle.reasons.specs.Reasons.{gives, said}
 use Rattle.luhn.specs.Luhn.{luhn_rule}
 use Rattle.ranges.specs.Ranges.{label_rule}
-use Rattle.ranges.specs.Inner.{said_label}
-use lib.ListN.{length, take, drop}
-use Rattle.text.specs.Bytes.{all_digits}
-use Rattle.pan.specs.Pan.{pan_length}
 use Rattle.hotlist.specs.Hotlist.{listed}
 use Rattle.layout.specs.Grammar.{field_in}
-use Rattle.dates.specs.Dates.{left_rule, said_validity}
-use Rattle.payer.specs.Payer.{part_of}
+use Rattle.dates.specs.Dates.{left_rule}
+use Rattle.payer.specs.Payer.{terms_of, part_of}
 use Rattle.payer.proofs.Cards.{part_is, luhn_refused, no_label, expired, is_listed, pays}
 use Rattle.payer.proofs.card_at.Goals as goal
+use Rattle.payer.proofs.card_at.Goals.{After-test, In_ok-test, After-label_tested, In_ok-label, In_ok-left, After-is_listed}
 
-pub label_tested-requires : goal.label_tested-requires
-label_tested-requires c =
-    let part_counts : pan_length (length (take (c.args.at + c.args.n - c.args.at) (drop c.args.at c.args.chars.now))) ≡ true = ap (λ (p : List ℕ). pan_length (length p)) (part_is c.args.chars.now c.args.at c.args.n) ∙ c.requires.2.count in
-    let part_digits : all_digits (take (c.args.at + c.args.n - c.args.at) (drop c.args.at c.args.chars.now)) ≡ true = ap all_digits (part_is c.args.chars.now c.args.at c.args.n) ∙ c.requires.2.digits in
-    (c.requires.0.site_right, c.requires.0.acquirer_right, part_counts, part_digits)
+-- what each call says, of the PAN as it stands in the characters
+luhn : (c : After-test) → said c.test.result ≡ luhn_rule (part_of c.args.chars.now c.args.spot.at c.args.spot.digits)
+luhn c = c.test.ensures ∙ ap luhn_rule (part_is c.args.chars.now c.args.spot.at c.args.spot.digits)
 
-pub left_on-requires : goal.left_on-requires
-left_on-requires c = let p = c.requires in (p.1, p.2.expiry_right)
+passed : (c : In_ok-test) → luhn_rule (part_of c.args.chars.now c.args.spot.at c.args.spot.digits) ≡ gives tt
+passed c = sym (luhn (goal.at.In_ok-test c).After-test) ∙ ap said c.in_ok-test.was
 
-pub is_listed-requires : goal.is_listed-requires
-is_listed-requires c =
-    let part_counts : pan_length (length (take (c.args.at + c.args.n - c.args.at) (drop c.args.at c.args.chars.now))) ≡ true = ap (λ (p : List ℕ). pan_length (length p)) (part_is c.args.chars.now c.args.at c.args.n) ∙ c.requires.2.count in
-    let part_digits : all_digits (take (c.args.at + c.args.n - c.args.at) (drop c.args.at c.args.chars.now)) ≡ true = ap all_digits (part_is c.args.chars.now c.args.at c.args.n) ∙ c.requires.2.digits in
-    (c.requires.0.hot_right, part_counts, part_digits)
+label : (c : After-label_tested)
+    → said c.label_tested.result ≡ label_rule c.args.terms.site.now c.args.terms.acquirer.now (part_of c.args.chars.now c.args.spot.at c.args.spot.digits)
+label c =
+    let t = c.args.terms in
+    c.label_tested.ensures ∙ ap (label_rule t.site.now t.acquirer.now) (part_is c.args.chars.now c.args.spot.at c.args.spot.digits)
+
+labelled : (c : In_ok-label)
+    → label_rule c.args.terms.site.now c.args.terms.acquirer.now (part_of c.args.chars.now c.args.spot.at c.args.spot.digits) ≡ gives c.in_ok-label.label
+labelled c = sym (label (goal.at.In_ok-label c).After-label_tested) ∙ ap said c.in_ok-label.was
+
+left : (c : In_ok-left) → left_rule c.args.date (field_in 4 c.args.chars.now c.args.spot.expiry) ≡ gives c.in_ok-left.left
+left c = sym c.left_on.ensures ∙ ap said c.in_ok-left.was
+
+is-listed : (c : After-is_listed)
+    → listed c.args.terms.hot.now c.args.terms.digits (part_of c.args.chars.now c.args.spot.at c.args.spot.digits) ≡ c.is_listed.result
+is-listed c =
+    let t = c.args.terms in
+    sym (c.is_listed.ensures ∙ ap (listed t.hot.now t.digits) (part_is c.args.chars.now c.args.spot.at c.args.spot.digits))
+
+pub returns-in_err-test : goal.returns-in_err-test
+returns-in_err-test c =
+    let d = c.requires.2 in
+    let e = sym (luhn (goal.at.returns-in_err-test c).After-test) ∙ ap said c.in_err-test.was in (
+      rw (luhn_refused (terms_of c.args.terms) c.args.date _ (field_in 4 c.args.chars.now c.args.spot.expiry) d.count d.digits
+          _ e) (search rules),
+      search rules,
+    )
+
+pub returns-in_err-label : goal.returns-in_err-label
+returns-in_err-label c =
+    let d = c.requires.2 in
+    let e = sym (label (goal.at.returns-in_err-label c).After-label_tested) ∙ ap said c.in_err-label.was in (
+      rw (no_label (terms_of c.args.terms) c.args.date _ (field_in 4 c.args.chars.now c.args.spot.expiry) d.count d.digits
+          _ (passed (goal.at.returns-in_err-label c).In_ok-test) e) (search rules),
+      search rules,
+    )
+
+pub returns-in_err-left : goal.returns-in_err-left
+returns-in_err-left c =
+    let d = c.requires.2 in
+    let p = goal.at.returns-in_err-left c in
+    let e = sym c.left_on.ensures ∙ ap said c.in_err-left.was in (
+      rw (expired (terms_of c.args.terms) c.args.date _ (field_in 4 c.args.chars.now c.args.spot.expiry) d.count d.digits
+          _ (passed p.In_ok-test) (labelled p.In_ok-label) _ e) (search rules),
+      search rules,
+    )
 
 pub returns-then-is_listed : goal.returns-then-is_listed
 returns-then-is_listed c =
-    let hot_said : listed c.args.hot.now c.args.digits (part_of c.args.chars.now c.args.at c.args.n) ≡ c.is_listed.result = let a = c.args in
-    sym (c.is_listed.ensures ∙ ap (listed a.hot.now a.digits) (part_is a.chars.now a.at a.n)) in
-    let left_is : let a = c.args in left_rule a.date (field_in 4 a.chars.now a.expiry) ≡ gives c.in-Good.left = sym c.left_on.ensures ∙ ap said_validity c.in-Good.is in
-    let label-said : label_rule c.args.site.now c.args.acquirer.now (part_of c.args.chars.now c.args.at c.args.n) ≡ said_label c.label_tested.result = let a = c.args in
-    sym (c.label_tested.ensures ∙ ap (label_rule a.site.now a.acquirer.now) (part_is a.chars.now a.at a.n)) in
-    let label_is : label_rule c.args.site.now c.args.acquirer.now (part_of c.args.chars.now c.args.at c.args.n) ≡ gives c.in-Label.l = label-said ∙ ap said_label c.in-Label.is in
-    let luhn_said : luhn_rule (part_of c.args.chars.now c.args.at c.args.n) ≡ said c.test.result = let a = c.args in sym (c.test.ensures ∙ ap luhn_rule (part_is a.chars.now a.at a.n)) in
-    let passed : luhn_rule (part_of c.args.chars.now c.args.at c.args.n) ≡ gives tt = luhn_said ∙ ap said c.in-Passes.is in
-    let p = c.requires.2 in
-    let listed = hot_said ∙ c.if-is_listed.true in
-    (sym (is_listed _ _ _ _ p.count p.digits _ passed label_is _ left_is listed), omega arith)
+    let d = c.requires.2 in
+    let p = goal.at.returns-then-is_listed c in
+    let e = is-listed p.After-is_listed ∙ c.if-is_listed.true in (
+      sym (is_listed (terms_of c.args.terms) c.args.date _ (field_in 4 c.args.chars.now c.args.spot.expiry) d.count d.digits
+          _ (passed p.In_ok-test) (labelled p.In_ok-label) _ (left p.In_ok-left) e),
+      omega arith,
+    )
 
-pub returns-in-Refused : goal.returns-in-Refused
-returns-in-Refused c =
-    let luhn_said : luhn_rule (part_of c.args.chars.now c.args.at c.args.n) ≡ said c.test.result = let a = c.args in sym (c.test.ensures ∙ ap luhn_rule (part_is a.chars.now a.at a.n)) in
-    let p = c.requires.2 in
-    (sym (luhn_refused _ _ _ _ p.count p.digits _ (luhn_said ∙ ap said c.in-Refused.is)), omega arith)
-
-pub returns-in-Refused-label_tested : goal.returns-in-Refused-label_tested
-returns-in-Refused-label_tested c =
-    let luhn_said : luhn_rule (part_of c.args.chars.now c.args.at c.args.n) ≡ said c.test.result = let a = c.args in sym (c.test.ensures ∙ ap luhn_rule (part_is a.chars.now a.at a.n)) in
-    let passed : luhn_rule (part_of c.args.chars.now c.args.at c.args.n) ≡ gives tt = luhn_said ∙ ap said c.in-Passes.is in
-    let label-said : label_rule c.args.site.now c.args.acquirer.now (part_of c.args.chars.now c.args.at c.args.n) ≡ said_label c.label_tested.result = let a = c.args in
-    sym (c.label_tested.ensures ∙ ap (label_rule a.site.now a.acquirer.now) (part_is a.chars.now a.at a.n)) in
-    let p = c.requires.2 in
-    (sym (no_label _ _ _ _ p.count p.digits _ passed (label-said ∙ ap said_label c.in-Refused-label_tested.is)), omega arith)
-
-pub returns-in-Refused-left_on : goal.returns-in-Refused-left_on
-returns-in-Refused-left_on c =
-    let label-said : label_rule c.args.site.now c.args.acquirer.now (part_of c.args.chars.now c.args.at c.args.n) ≡ said_label c.label_tested.result = let a = c.args in
-    sym (c.label_tested.ensures ∙ ap (label_rule a.site.now a.acquirer.now) (part_is a.chars.now a.at a.n)) in
-    let label_is : label_rule c.args.site.now c.args.acquirer.now (part_of c.args.chars.now c.args.at c.args.n) ≡ gives c.in-Label.l = label-said ∙ ap said_label c.in-Label.is in
-    let luhn_said : luhn_rule (part_of c.args.chars.now c.args.at c.args.n) ≡ said c.test.result = let a = c.args in sym (c.test.ensures ∙ ap luhn_rule (part_is a.chars.now a.at a.n)) in
-    let passed : luhn_rule (part_of c.args.chars.now c.args.at c.args.n) ≡ gives tt = luhn_said ∙ ap said c.in-Passes.is in
-    let p = c.requires.2 in
-    let said = sym c.left_on.ensures ∙ ap said_validity c.in-Refused-left_on.is in
-    (sym (expired _ _ _ _ p.count p.digits _ passed label_is _ said), omega arith)
-
-pub returns-else-is_listed : goal.returns-else-is_listed
-returns-else-is_listed c =
-    let hot_said : listed c.args.hot.now c.args.digits (part_of c.args.chars.now c.args.at c.args.n) ≡ c.is_listed.result = let a = c.args in
-    sym (c.is_listed.ensures ∙ ap (listed a.hot.now a.digits) (part_is a.chars.now a.at a.n)) in
-    let left_is : let a = c.args in left_rule a.date (field_in 4 a.chars.now a.expiry) ≡ gives c.in-Good.left = sym c.left_on.ensures ∙ ap said_validity c.in-Good.is in
-    let label-said : label_rule c.args.site.now c.args.acquirer.now (part_of c.args.chars.now c.args.at c.args.n) ≡ said_label c.label_tested.result = let a = c.args in
-    sym (c.label_tested.ensures ∙ ap (label_rule a.site.now a.acquirer.now) (part_is a.chars.now a.at a.n)) in
-    let label_is : label_rule c.args.site.now c.args.acquirer.now (part_of c.args.chars.now c.args.at c.args.n) ≡ gives c.in-Label.l = label-said ∙ ap said_label c.in-Label.is in
-    let luhn_said : luhn_rule (part_of c.args.chars.now c.args.at c.args.n) ≡ said c.test.result = let a = c.args in sym (c.test.ensures ∙ ap luhn_rule (part_is a.chars.now a.at a.n)) in
-    let passed : luhn_rule (part_of c.args.chars.now c.args.at c.args.n) ≡ gives tt = luhn_said ∙ ap said c.in-Passes.is in
-    let p = c.requires.2 in
-    let free = hot_said ∙ c.if-is_listed.false in
-    (sym (pays _ _ _ _ p.count p.digits _ passed label_is _ left_is free), p.fits)
+pub returns : goal.returns
+returns c =
+    let d = c.requires.2 in
+    let p = goal.at.returns c in
+    let e = is-listed p.After-is_listed ∙ c.if-is_listed.false in (
+      sym (pays (terms_of c.args.terms) c.args.date _ (field_in 4 c.args.chars.now c.args.spot.expiry) d.count d.digits
+          _ (passed p.In_ok-test) (labelled p.In_ok-label) _ (left p.In_ok-left) e),
+      d.fits,
+    )

@@ -1,18 +1,22 @@
-use Rattle.payer.specs.Payer.{terms, given}
-use Rattle.plays.proofs.Records.{same_swipe, stream_is, swipe_refused_came, swiped_came}
-use borrow.Author.Rules.{rules}
+use Rattle.std.proofs.Common.{◌≡◌, rules}
+use Rattle.payer.specs.Payer.{terms_of, given}
+use Rattle.plays.specs.Script.{bits_at, stream_at, date_at}
+use Rattle.plays.proofs.Records.{same_swipe, swipe_refused_came, swiped_came}
 use Rattle.plays.proofs.play_swipe.Goals as goal
+use Rattle.plays.proofs.play_swipe.Goals.{After-swipe}
 
-pub returns-in-Refused : goal.returns-in-Refused
-returns-in-Refused c =
-    same_swipe _ _ _ _ _
-    (λ i. given c.args.track (stream_is c.args.script.now c.args.at i) (c.u32_at-bits.ensures i) (terms c.args.site.now c.args.acquirer.now c.args.hot.now c.args.digits) (c.date_at-date.ensures i))
-    c.u32_at-amount.ensures c.u32_at-clock.ensures
-    (swipe_refused_came _ _ _ (search rules) _ _ _ _ _ c.swipe.ensures _ _ c.in-Refused.is c.counted.ensures)
+swiped : (c : After-swipe) → given c.args.track (stream_at c.args.r.now 0) c.from-bits.result (terms_of c.args.terms) c.date_of-date.result
+    ≡ given c.args.track (stream_at c.args.r.now 0) (bits_at c.args.r.now 0) (terms_of c.args.terms) (date_at c.args.r.now 0)
+swiped c =
+    let bits : c.from-bits.result ≡ bits_at c.args.r.now 0 = search rules in
+    λ i. given c.args.track (stream_at c.args.r.now 0) (bits i) (terms_of c.args.terms) (c.date_of-date.ensures i)
 
-pub returns-in-Booked : goal.returns-in-Booked
-returns-in-Booked c =
-    same_swipe _ _ _ _ _
-    (λ i. given c.args.track (stream_is c.args.script.now c.args.at i) (c.u32_at-bits.ensures i) (terms c.args.site.now c.args.acquirer.now c.args.hot.now c.args.digits) (c.date_at-date.ensures i))
-    c.u32_at-amount.ensures c.u32_at-clock.ensures
-    (swiped_came _ _ _ (search rules) _ _ _ _ _ c.swipe.ensures _ _ _ c.in-Booked.is c.counted-in-Booked.ensures)
+pub returns-in-Ok : goal.returns-in-Ok
+returns-in-Ok c =
+    same_swipe _ _ _ _ _ (swiped (goal.at.returns-in-Ok c).After-swipe) c.u32_at-amount.ensures c.u32_at-clock.ensures
+    (swiped_came _ _ _ (search rules) _ _ _ _ _ _ c.in-Ok.ensures c.one_booked.ensures)
+
+pub returns-in-Err : goal.returns-in-Err
+returns-in-Err c =
+    same_swipe _ _ _ _ _ (swiped (goal.at.returns-in-Err c).After-swipe) c.u32_at-amount.ensures c.u32_at-clock.ensures
+    (swipe_refused_came _ _ _ (search rules) _ _ _ _ _ _ c.in-Err.ensures c.one_refused.ensures)

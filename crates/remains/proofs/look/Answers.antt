@@ -1,26 +1,26 @@
-use mathlib.Core.Path.{◌≡◌, sym, ap, ◌∙◌}
-use mathlib.Core.Bool.{true}
-use native.Mathlib.Omega.{arith}
-use lib.ListN.{length}
+use Rattle.std.proofs.Common.{ap, ◌∙◌, arith}
+use Rattle.std.proofs.lemmas.Result.{err_from_is_err_and}
 use Rattle.reasons.specs.Reasons.{gives}
-use Rattle.slots.specs.Journal.{sized}
 use Rattle.remains.proofs.Rule.{look_length, look_past, look_says}
 use Rattle.remains.proofs.look.Goals as goal
 
-pub returns-then-not-is_sized : goal.returns-then-not-is_sized
-returns-then-not-is_sized c = look_length _ _ (sym c.is_sized.ensures ∙ c.if-not-is_sized.true)
+pub returns-in_err-slots : goal.returns-in_err-slots
+returns-in_err-slots c =
+    let p = err_from_is_err_and c.from_residual.result c.from_residual.ensures.1 in
+    let e = c.in_err-slots.ensures in
+    rw (p.1, p.2, e.1) (look_length _ _ e.0)
 
-pub returns-then-j-k : goal.returns-then-j-k
-returns-then-j-k c =
-    let size_is : sized (length c.args.j.now) ≡ true = sym c.is_sized.ensures ∙ c.if-not-is_sized.false in
-    look_past _ _ size_is c.if-j-k.true
+pub returns-then-count-k : goal.returns-then-count-k
+returns-then-count-k c =
+    let e = c.in_ok-slots.ensures in
+    let n = rw e.1 at c.count.ensures in
+    look_past _ _ e.0 (omega arith)
 
-pub told_at-requires : goal.told_at-requires
-told_at-requires c =
-    let size_is : sized (length c.args.j.now) ≡ true = sym c.is_sized.ensures ∙ c.if-not-is_sized.false in
-    (size_is, omega arith)
+pub at-requires : goal.at-requires
+at-requires c = omega arith
 
 pub returns : goal.returns
 returns c =
-    let size_is : sized (length c.args.j.now) ≡ true = sym c.is_sized.ensures ∙ c.if-not-is_sized.false in
-    ap gives c.told_at.ensures ∙ look_says _ _ size_is (omega arith)
+    let e = c.in_ok-slots.ensures in
+    let n = rw e.1 at c.count.ensures in
+    ap gives (rw e.1 at c.at.ensures) ∙ look_says _ _ e.0 (omega arith)

@@ -1,12 +1,11 @@
--- `trimmed`: what is left of the front is what is left of the line.
-use Prim.Native.Nat.{◌≤◌}
+-- `trimmed`: what is left of the line, trimmed, is the line trimmed.
 use Rattle.script.specs.Words.{trimmed}
-use lib.ListN.{length, take}
+use lib.ListN.{length}
 use mathlib.Core.Path.{◌≡◌}
 use Rattle.script.proofs.trimmed.Given as goal
 
-abbrev pub decreases-loop-n : goal.decreases-loop-n
-decreases-loop-n l = l.n
+abbrev pub decreases-loop-rest : goal.decreases-loop-rest
+decreases-loop-rest l = length l.rest
 
-abbrev pub invariant-loop-n : goal.invariant-loop-n
-invariant-loop-n l = (l.n ≤ length l.line) × (trimmed (take l.n l.line) ≡ trimmed l.line)
+abbrev pub invariant-loop-rest : goal.invariant-loop-rest
+invariant-loop-rest l = trimmed l.rest ≡ trimmed l.line

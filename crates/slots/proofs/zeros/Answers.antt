@@ -1,5 +1,4 @@
-use native.Mathlib.Omega.{arith}
-use mathlib.Core.Path.{sym, ◌∙◌}
+use Rattle.std.proofs.Common.{sym, ◌∙◌, arith}
 use Rattle.slots.proofs.Ranges.{tells_yes, tells_no, range_none, range_more, zero_word, word_zero, zeros_join}
 use Rattle.slots.proofs.zeros.Goals as goal
 
@@ -16,14 +15,14 @@ loop-i-preserved c =
     let l = c.loop-i in
     (omega arith, omega arith, zeros_join c.args.j.now _ l.i _ l.invariant.2 (zero_word _ l.i (sym c.u32_at.ensures ∙ c.if-u32_at-ne0.false)))
 
-pub loop-i-2-init : goal.loop-i-2-init
-loop-i-2-init c = c.loop-i.invariant
+pub loop-k-init : goal.loop-k-init
+loop-k-init c = c.loop-i.invariant.2
 
-pub returns-then-j-i-ne0 : goal.returns-then-j-i-ne0
-returns-then-j-i-ne0 c = tells_no (λ h. c.if-j-i-ne0.true (h c.loop-i-2.i (omega arith) (omega arith)))
+pub returns-then-j-k-ne0 : goal.returns-then-j-k-ne0
+returns-then-j-k-ne0 c = tells_no (λ h. c.if-j-k-ne0.true (h c.loop-k.k (omega arith) (omega arith)))
 
-pub loop-i-2-preserved : goal.loop-i-2-preserved
-loop-i-2-preserved c = (omega arith, omega arith, range_more _ _ _ c.loop-i-2.invariant.2 c.if-j-i-ne0.false)
+pub loop-k-preserved : goal.loop-k-preserved
+loop-k-preserved c = range_more _ _ _ c.loop-k.invariant c.if-j-k-ne0.false
 
 pub returns : goal.returns
-returns c = tells_yes (λ i l h. c.loop-i-2.invariant.2 i l (omega arith))
+returns c = tells_yes (λ i l h. c.loop-k.invariant i l (omega arith))

@@ -8,6 +8,6 @@ pub returns : goal.returns
 returns c =
     let a = c.args in (
       ap (λ (x : ℕ). x / 2 ^ a.shift % 1024) (c.u32_at.ensures ∙ four_bytes a.s.now a.first)
-          ∙ window_is a.s.now (λ i. omega (arith, c.shared_slice_known-1.given i)) 4 a.first a.shift 10 (omega arith),
+          ∙ window_is a.s.now (λ i. omega (arith, c.type_inv.s i)) 4 a.first a.shift 10 (omega arith),
       omega arith,
     )

@@ -17,7 +17,7 @@ returns c =
     let word = ap₂ (λ (x y : ℕ). x + 256 * y) c.wide.ensures.0 c.wide-2.ensures.0 in
     let at : 8 * b + o ≡ a.place = omega arith in (
       ap₂ (λ (x m : ℕ). x / 2 ^ o % m) word (power a.width 64 (omega arith))
-          ∙ in_two a.s.now (λ i. omega (arith, c.shared_slice_known-3-1.given i)) b e o a.width (omega arith) (λ h. omega arith)
+          ∙ in_two a.s.now (λ i. omega (arith, c.type_inv.s i)) b e o a.width (omega arith) (λ h. omega arith)
           ∙ ap (λ (p : ℕ). number (bits_from a.s.now p a.width)) at,
       rw (power a.width 64 (omega arith)) (mod-lt _ (pow_pos a.width)),
     )

@@ -4,89 +4,87 @@ use mathlib.Core.Path.{◌≡◌, refl, sym, ap, ◌∙◌, subst, subst⁻¹}
 use mathlib.Core.List.{List}
 use native.Mathlib.Omega.{arith}
 use lib.ListN.{length, take, drop}
+use Rattle.std.proofs.Common.{rules, Option, Some, Ok, Result}
 use Rattle.text.specs.Numbers.{put}
 use Rattle.text.proofs.Tests.{inside_is}
-use Rattle.reasons.specs.Reasons.{Outcome, gives}
+use Rattle.reasons.specs.Reasons.{Outcome, gives, refuses, number_of, said}
+use Rattle.reasons.specs.declared.Reason.{Reason}
 use Rattle.slots.specs.Record.{record32}
 use Rattle.slots.specs.Journal.{slots_of, place, NewestIs}
-use Rattle.slots.specs.declared.Newest.{Newest}
-use Rattle.slots.specs.declared.Newest.TheVariants.{Is}
-use Rattle.payer.specs.Payer.{Terms, terms, Given, given, Payer, part_of, card_rule, said_card, pan_end}
-use Rattle.dates.specs.declared.Left.{Left}
-use Rattle.swipe.specs.Swipe.{box_rule, said_bookable}
-use Rattle.payer.specs.declared.Card.{Card}
+use Rattle.payer.specs.Payer.{terms_of, Given, given, part_of, card_rule, said_card, pan_end}
+use Rattle.payer.specs.declared.Paying.{Paying}
 use Rattle.payer.proofs.Cards.{part_is}
+use Rattle.swipe.specs.Swipe.{box_rule}
 use Rattle.swipe.proofs.Steps.{card_fine, refused, box_refused, card_next, Open, opened, booked}
 use Rattle.swipe.proofs.book_card.Goals as goal
+use Rattle.swipe.proofs.book_card.Goals.{In_ok-b, In_ok-card}
 
--- where the stripe gave a card: its PAN, label and days, as they stand in the scratch s that the reading left
-abbrev paid : List ℕ → ℕ → ℕ → ℕ → Left → Payer
-paid s at n label left = record { pan = part_of s at n; label = label; left = left }
+-- the PAN in the scratch s that the reading left, as it is lent to the journal
+counts : (g : Given) (s : List ℕ) (p : Paying) → card_rule g ≡ said_card (Ok p) s
+    → (13 ≤ length (take (p.at + p.digits - p.at) (drop p.at s))) × (length (take (p.at + p.digits - p.at) (drop p.at s)) ≤ 19)
+counts g s p is =
+    let w = inside_is 13 19 (length (part_of s p.at p.digits))
+    (card_fine g (record { pan = part_of s p.at p.digits; label = p.label; left = p.left }) is).count in
+    subst⁻¹ (λ (l : List ℕ). (13 ≤ length l) × (length l ≤ 19)) (part_is s p.at p.digits) (w.0, w.1)
 
--- the part of the scratch that is lent is the PAN, of a length that a journal takes
-counts : (g : Given) (s : List ℕ) (at n label : ℕ) (left : Left) → card_rule g ≡ gives (paid s at n label left)
-    → (13 ≤ length (take (at + n - at) (drop at s))) × (length (take (at + n - at) (drop at s)) ≤ 19)
-counts g s at n label left is =
-    let w = inside_is 13 19 (length (part_of s at n)) (card_fine g (paid s at n label left) is).count in
-    subst⁻¹ (λ (p : List ℕ). (13 ≤ length p) × (length p ≤ 19)) (part_is s at n) (w.0, w.1)
+-- what the box has shown
+opens : (c : In_ok-b) → Open (terms_of c.args.terms) c.args.amount c.args.date c.args.journal.now c.ready.ensures.view c.in_ok-b.b
+opens c = opened _ _ _ _ _ _ (sym c.ready.ensures.so ∙ ap said c.in_ok-b.was)
+
+formed : (c : In_ok-b) → NewestIs c.args.journal.now (Some c.in_ok-b.b)
+formed c = subst (NewestIs c.args.journal.now) (opens c).view c.ready.ensures.is
+
+passes : (c : In_ok-b) → gives c.in_ok-b.b ≡ box_rule (Some c.in_ok-b.b) (terms_of c.args.terms) c.args.amount c.args.date c.args.journal.now
+passes c =
+    let rule : Option ℕ → Outcome ℕ = λ m. box_rule m (terms_of c.args.terms) c.args.amount c.args.date c.args.journal.now in
+    sym (ap said c.in_ok-b.was) ∙ c.ready.ensures.so ∙ ap rule (opens c).view
+
+-- and what the card
+pays : (c : In_ok-card)
+    → card_rule (given c.args.track c.args.stream.now c.args.bits (terms_of c.args.terms) c.args.date)
+    ≡ said_card (Ok c.in_ok-card.card) c.card_of_stripe.new.scratch
+pays c = sym c.card_of_stripe.ensures.0 ∙ ap (λ (r : Result Paying Reason). said_card r c.card_of_stripe.new.scratch) c.in_ok-card.was
 
 pub card_of_stripe-requires : goal.card_of_stripe-requires
-card_of_stripe-requires c =
-    let passed_box : let a = c.args in Open (let a = c.args in terms a.site.now a.acquirer.now a.hot.now a.digits) a.amount a.date a.journal.now c.ready.ensures.view c.in-After.b = opened _ _ _ _ _ _ (sym c.ready.ensures.so ∙ ap said_bookable c.in-After.is) in
-    (c.requires, passed_box.sound, passed_box.date_right)
+card_of_stripe-requires c = let o = opens (goal.at.card_of_stripe-requires c).In_ok-b in (c.requires, o.sound, o.date_right)
 
 pub overflow_add-end : goal.overflow_add-end
 overflow_add-end c =
-    let scratch_fits : length c.args.scratch.now < 18446744073709551616 = omega arith in
-    let left_fits : length c.card_of_stripe.new.scratch < 18446744073709551616 = omega (arith, scratch_fits) in
-    let pan_in : c.in-Pays.at + c.in-Pays.n ≤ length c.card_of_stripe.new.scratch = omega (arith, c.card_of_stripe.ensures.1, ap pan_end c.in-Pays.is) in
-    omega (arith, pan_in, left_fits)
+    let fits : length c.args.scratch.now < 18446744073709551616 = omega arith in
+    omega (arith, c.card_of_stripe.ensures.1, ap pan_end c.in_ok-card.was)
 
-pub returns-in-Refused : goal.returns-in-Refused
-returns-in-Refused c =
-    let e = sym (ap said_bookable c.in-Refused.is) ∙ c.ready.ensures.so in
-    (record { view = c.ready.ensures.view; is = c.ready.ensures.is; so = refused _ _ _ _ _ _ _ (box_refused _ _ _ _ _ c.requires _ e) }, refl)
+pub returns-in_err-b : goal.returns-in_err-b
+returns-in_err-b c =
+    let s : said c.from_residual.result ≡ refuses (number_of c.in_err-b.field-0.0) = search rules in
+    let e = sym (ap said c.in_err-b.was) ∙ c.ready.ensures.so in
+    (record { view = c.ready.ensures.view; is = c.ready.ensures.is; so = refused _ _ _ _ _ _ _ _ s (box_refused _ _ _ _ _ c.requires _ e) }, refl)
 
-pub returns-in-Refused-card_of_stripe : goal.returns-in-Refused-card_of_stripe
-returns-in-Refused-card_of_stripe c =
-    let passed_box : let a = c.args in Open (let a = c.args in terms a.site.now a.acquirer.now a.hot.now a.digits) a.amount a.date a.journal.now c.ready.ensures.view c.in-After.b = opened _ _ _ _ _ _ (sym c.ready.ensures.so ∙ ap said_bookable c.in-After.is) in
-    let formed : NewestIs c.args.journal.now (Is c.in-After.b) = subst (NewestIs c.args.journal.now) passed_box.view c.ready.ensures.is in
-    let passes : let a = c.args in gives c.in-After.b ≡ box_rule (Is c.in-After.b) (let a = c.args in terms a.site.now a.acquirer.now a.hot.now a.digits) a.amount a.date a.journal.now = let a = c.args in
-    let rule : Newest → Outcome ℕ = λ m. box_rule m (let a = c.args in terms a.site.now a.acquirer.now a.hot.now a.digits) a.amount a.date a.journal.now in
-    sym (ap said_bookable c.in-After.is) ∙ c.ready.ensures.so ∙ ap rule passed_box.view in
-    let e = sym c.card_of_stripe.ensures.0 ∙ ap (λ (r : Card). said_card r c.card_of_stripe.new.scratch) c.in-Refused-card_of_stripe.is in
-    let so = refused _ _ _ _ _ _ _ (card_next _ _ _ _ _ c.requires _ passes ∙ e) in
-    (record { view = Is c.in-After.b; is = formed; so = so }, c.card_of_stripe.ensures.2)
+pub returns-in_err-card : goal.returns-in_err-card
+returns-in_err-card c =
+    let p = (goal.at.returns-in_err-card c).In_ok-b in
+    let s : said c.from_residual-in_err-card.result ≡ refuses (number_of c.in_err-card.field-0.0) = search rules in
+    let e = sym c.card_of_stripe.ensures.0 ∙ ap (λ (r : Result Paying Reason). said_card r c.card_of_stripe.new.scratch) c.in_err-card.was in
+    let so = refused _ _ _ _ _ _ _ _ s (card_next _ _ _ _ _ c.requires _ (passes p) ∙ e) in
+    (record { view = Some c.in_ok-b.b; is = formed p; so = so }, c.card_of_stripe.ensures.2)
 
 pub write_at-serial-requires-clause-formed : goal.write_at-serial-requires-clause-formed
-write_at-serial-requires-clause-formed c =
-    let a = c.args in
-    let passed_box : Open (terms a.site.now a.acquirer.now a.hot.now a.digits) a.amount a.date a.journal.now c.ready.ensures.view c.in-After.b = opened _ _ _ _ _ _ (sym c.ready.ensures.so ∙ ap said_bookable c.in-After.is) in
-    subst (NewestIs a.journal.now) passed_box.view c.ready.ensures.is
+write_at-serial-requires-clause-formed c = formed (goal.at.write_at-serial-requires-clause-formed c).In_ok-b
 
 pub write_at-serial-requires-clause-b_bound : goal.write_at-serial-requires-clause-b_bound
 write_at-serial-requires-clause-b_bound c =
-    let a = c.args in
-    let s = c.card_of_stripe.new.scratch in
-    let p = c.in-Pays in
-    let card_is : card_rule (given a.track a.stream.now a.bits (terms a.site.now a.acquirer.now a.hot.now a.digits) a.date) ≡ gives (paid s p.at p.n p.label p.left) = sym c.card_of_stripe.ensures.0 ∙ ap (λ (r : Card). said_card r s) p.is in
-    let serial_fits : c.in-After.b < 4294967296 = omega arith in
-    let passed_box : Open (terms a.site.now a.acquirer.now a.hot.now a.digits) a.amount a.date a.journal.now c.ready.ensures.view c.in-After.b = opened _ _ _ _ _ _ (sym c.ready.ensures.so ∙ ap said_bookable c.in-After.is) in
-    let w = counts _ s p.at p.n p.label p.left card_is in
-    (omega (arith, passed_box.serials, serial_fits), w.0, w.1)
+    let p = goal.at.write_at-serial-requires-clause-b_bound c in
+    let fits : c.in_ok-b.b < 4294967296 = omega arith in
+    let w = counts _ _ c.in_ok-card.card (pays p.In_ok-card) in
+    (omega (arith, (opens p.In_ok-b).serials, fits), w.0, w.1)
 
-pub returns-in-Pays : goal.returns-in-Pays
-returns-in-Pays c =
+pub returns : goal.returns
+returns c =
     let a = c.args in
     let j = a.journal.now in
     let s = c.card_of_stripe.new.scratch in
-    let p = c.in-Pays in
-    let t : Terms = terms a.site.now a.acquirer.now a.hot.now a.digits in
-    let card_is : card_rule (given a.track a.stream.now a.bits t a.date) ≡ gives (paid s p.at p.n p.label p.left) = sym c.card_of_stripe.ensures.0 ∙ ap (λ (r : Card). said_card r s) p.is in
-    let passed_box : Open t a.amount a.date j c.ready.ensures.view c.in-After.b = opened _ _ _ _ _ _ (sym c.ready.ensures.so ∙ ap said_bookable c.in-After.is) in
-    let formed : NewestIs j (Is c.in-After.b) = subst (NewestIs j) passed_box.view c.ready.ensures.is in
-    let rule : Newest → Outcome ℕ = λ m. box_rule m t a.amount a.date j in
-    let passes : gives c.in-After.b ≡ box_rule (Is c.in-After.b) t a.amount a.date j = sym (ap said_bookable c.in-After.is) ∙ c.ready.ensures.so ∙ ap rule passed_box.view in
-    let e = ap (λ (l : List ℕ). put j (place (slots_of j) (c.in-After.b + 1)) (record32 (c.in-After.b + 1) a.clock a.amount p.label l)) (part_is s p.at p.n) in
-    let so = booked _ _ _ _ _ _ (paid s p.at p.n p.label p.left) _ _ c.requires passes card_is c.write_at-serial.ensures.0 (c.write_at-serial.ensures.1 ∙ e) in
-    (record { view = Is c.in-After.b; is = formed; so = so }, c.card_of_stripe.ensures.2)
+    let d = c.in_ok-card.card in
+    let p = goal.at.returns c in
+    let e = ap (λ (l : List ℕ). put j (place (slots_of j) (c.in_ok-b.b + 1)) (record32 (c.in_ok-b.b + 1) a.clock a.amount d.label l))
+    (part_is s d.at d.digits) in
+    let so = booked _ _ _ _ _ _ _ _ _ c.requires (passes p.In_ok-b) (pays p.In_ok-card) c.write_at-serial.ensures.0 (c.write_at-serial.ensures.1 ∙ e) in
+    (record { view = Some c.in_ok-b.b; is = formed p.In_ok-b; so = so }, c.card_of_stripe.ensures.2)

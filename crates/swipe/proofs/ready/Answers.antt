@@ -6,72 +6,62 @@ use Rattle.ranges.specs.Ranges.{table_ok}
 use Rattle.dates.specs.Dates.{real}
 use Rattle.slots.specs.Journal.{NewestIs}
 use Rattle.slots.proofs.Views.{seen}
-use Rattle.payer.specs.Payer.{terms, Sound}
+use Rattle.payer.specs.Payer.{terms_of, Sound}
 use Rattle.swipe.proofs.Steps.{bad_journal, bad_tables, bad_list, zero_amount, bad_date, last_serial, journal_full, all_passed}
 use Rattle.swipe.proofs.ready.Goals as goal
+use Rattle.swipe.proofs.ready.Goals.{Else-not-tables_ok, Else-not-list_ok, Else-not-is_real}
 
-pub returns-then-not-tables : goal.returns-then-not-tables
-returns-then-not-tables c =
-    seen _ _ _ c.newest_of.ensures c.in-Is.is
-    (bad_tables (let a = c.args in terms a.site.now a.acquirer.now a.hot.now a.digits) _ _ _ _ (sym c.tables_ok-tables.ensures ∙ c.if-not-tables.true))
+tables : (c : Else-not-tables_ok) → (table_ok c.args.terms.site.now && table_ok c.args.terms.acquirer.now) ≡ true
+tables c = sym c.tables_ok.ensures ∙ c.if-not-tables_ok.false
+
+sound : (c : Else-not-list_ok) → Sound (terms_of c.args.terms)
+sound c =
+    let w = both_true (table_ok c.args.terms.site.now) (table_ok c.args.terms.acquirer.now) (tables (goal.at.Else-not-list_ok c).Else-not-tables_ok) in
+    record { site_right = w.0; acquirer_right = w.1; hot_right = sym c.list_ok.ensures ∙ c.if-not-list_ok.false }
+
+date : (c : Else-not-is_real) → real c.args.date ≡ true
+date c = sym c.is_real.ensures ∙ c.if-not-is_real.false
+
+pub returns-in_default : goal.returns-in_default
+returns-in_default c = seen _ _ _ c.newest_of.ensures c.in_default.is (bad_journal (terms_of c.args.terms) _ _ _)
+
+pub returns-then-not-tables_ok : goal.returns-then-not-tables_ok
+returns-then-not-tables_ok c =
+    seen _ _ _ c.newest_of.ensures c.in-Some.is
+    (bad_tables (terms_of c.args.terms) _ _ _ _ (sym c.tables_ok.ensures ∙ c.if-not-tables_ok.true))
 
 pub returns-then-not-list_ok : goal.returns-then-not-list_ok
 returns-then-not-list_ok c =
-    let tables_passed : let t = (let a = c.args in terms a.site.now a.acquirer.now a.hot.now a.digits) in (table_ok t.site && table_ok t.acquirer) ≡ true = sym c.tables_ok-tables.ensures ∙ c.if-not-tables.false in
-    seen _ _ _ c.newest_of.ensures c.in-Is.is
-    (bad_list (let a = c.args in terms a.site.now a.acquirer.now a.hot.now a.digits) _ _ _ _ tables_passed (sym c.list_ok.ensures ∙ c.if-not-list_ok.true))
+    seen _ _ _ c.newest_of.ensures c.in-Some.is
+    (bad_list (terms_of c.args.terms) _ _ _ _ (tables (goal.at.returns-then-not-list_ok c).Else-not-tables_ok) (sym c.list_ok.ensures ∙ c.if-not-list_ok.true))
 
 pub returns-then-amount-eq0 : goal.returns-then-amount-eq0
 returns-then-amount-eq0 c =
-    let tables_passed : let t = (let a = c.args in terms a.site.now a.acquirer.now a.hot.now a.digits) in (table_ok t.site && table_ok t.acquirer) ≡ true = sym c.tables_ok-tables.ensures ∙ c.if-not-tables.false in
-    let sound : Sound (let a = c.args in terms a.site.now a.acquirer.now a.hot.now a.digits) = let t = (let a = c.args in terms a.site.now a.acquirer.now a.hot.now a.digits) in
-    let w = both_true (table_ok t.site) (table_ok t.acquirer) tables_passed in
-    record { site_right = w.0; acquirer_right = w.1; hot_right = sym c.list_ok.ensures ∙ c.if-not-list_ok.false } in
-    seen _ _ _ c.newest_of.ensures c.in-Is.is (zero_amount _ _ _ _ _ sound c.if-amount-eq0.true)
+    seen _ _ _ c.newest_of.ensures c.in-Some.is
+    (zero_amount _ _ _ _ _ (sound (goal.at.returns-then-amount-eq0 c).Else-not-list_ok) c.if-amount-eq0.true)
 
 pub returns-then-not-is_real : goal.returns-then-not-is_real
 returns-then-not-is_real c =
-    let tables_passed : let t = (let a = c.args in terms a.site.now a.acquirer.now a.hot.now a.digits) in (table_ok t.site && table_ok t.acquirer) ≡ true = sym c.tables_ok-tables.ensures ∙ c.if-not-tables.false in
-    let sound : Sound (let a = c.args in terms a.site.now a.acquirer.now a.hot.now a.digits) = let t = (let a = c.args in terms a.site.now a.acquirer.now a.hot.now a.digits) in
-    let w = both_true (table_ok t.site) (table_ok t.acquirer) tables_passed in
-    record { site_right = w.0; acquirer_right = w.1; hot_right = sym c.list_ok.ensures ∙ c.if-not-list_ok.false } in
-    seen _ _ _ c.newest_of.ensures c.in-Is.is
-    (bad_date _ _ _ _ _ sound c.if-amount-eq0.false (sym c.is_real.ensures ∙ c.if-not-is_real.true))
+    seen _ _ _ c.newest_of.ensures c.in-Some.is
+    (bad_date _ _ _ _ _ (sound (goal.at.returns-then-not-is_real c).Else-not-list_ok) c.if-amount-eq0.false (sym c.is_real.ensures ∙ c.if-not-is_real.true))
 
 pub returns-then-b : goal.returns-then-b
 returns-then-b c =
-    let date_passed : real c.args.date ≡ true = sym c.is_real.ensures ∙ c.if-not-is_real.false in
-    let tables_passed : let t = (let a = c.args in terms a.site.now a.acquirer.now a.hot.now a.digits) in (table_ok t.site && table_ok t.acquirer) ≡ true = sym c.tables_ok-tables.ensures ∙ c.if-not-tables.false in
-    let sound : Sound (let a = c.args in terms a.site.now a.acquirer.now a.hot.now a.digits) = let t = (let a = c.args in terms a.site.now a.acquirer.now a.hot.now a.digits) in
-    let w = both_true (table_ok t.site) (table_ok t.acquirer) tables_passed in
-    record { site_right = w.0; acquirer_right = w.1; hot_right = sym c.list_ok.ensures ∙ c.if-not-list_ok.false } in
-    seen _ _ _ c.newest_of.ensures c.in-Is.is
-    (last_serial _ _ _ _ _ sound c.if-amount-eq0.false date_passed c.if-b.true)
+    let p = goal.at.returns-then-b c in
+    seen _ _ _ c.newest_of.ensures c.in-Some.is
+    (last_serial _ _ _ _ _ (sound p.Else-not-list_ok) c.if-amount-eq0.false (date p.Else-not-is_real) c.if-b.true)
 
 pub is_full-requires : goal.is_full-requires
-is_full-requires c = subst (NewestIs c.args.journal.now) c.in-Is.is c.newest_of.ensures
+is_full-requires c = subst (NewestIs c.args.journal.now) c.in-Some.is c.newest_of.ensures
 
 pub returns-then-is_full : goal.returns-then-is_full
 returns-then-is_full c =
-    let date_passed : real c.args.date ≡ true = sym c.is_real.ensures ∙ c.if-not-is_real.false in
-    let tables_passed : let t = (let a = c.args in terms a.site.now a.acquirer.now a.hot.now a.digits) in (table_ok t.site && table_ok t.acquirer) ≡ true = sym c.tables_ok-tables.ensures ∙ c.if-not-tables.false in
-    let sound : Sound (let a = c.args in terms a.site.now a.acquirer.now a.hot.now a.digits) = let t = (let a = c.args in terms a.site.now a.acquirer.now a.hot.now a.digits) in
-    let w = both_true (table_ok t.site) (table_ok t.acquirer) tables_passed in
-    record { site_right = w.0; acquirer_right = w.1; hot_right = sym c.list_ok.ensures ∙ c.if-not-list_ok.false } in
-    let full = sym c.is_full.ensures ∙ c.if-is_full.true in
-    seen _ _ _ c.newest_of.ensures c.in-Is.is
-    (journal_full _ _ _ _ _ sound c.if-amount-eq0.false date_passed c.if-b.false full)
+    let p = goal.at.returns-then-is_full c in
+    seen _ _ _ c.newest_of.ensures c.in-Some.is
+    (journal_full _ _ _ _ _ (sound p.Else-not-list_ok) c.if-amount-eq0.false (date p.Else-not-is_real) c.if-b.false (sym c.is_full.ensures ∙ c.if-is_full.true))
 
-pub returns-in-Malformed : goal.returns-in-Malformed
-returns-in-Malformed c = seen _ _ _ c.newest_of.ensures c.in-Malformed.is (bad_journal (let a = c.args in terms a.site.now a.acquirer.now a.hot.now a.digits) _ _ _)
-
-pub returns-else-is_full : goal.returns-else-is_full
-returns-else-is_full c =
-    let date_passed : real c.args.date ≡ true = sym c.is_real.ensures ∙ c.if-not-is_real.false in
-    let tables_passed : let t = (let a = c.args in terms a.site.now a.acquirer.now a.hot.now a.digits) in (table_ok t.site && table_ok t.acquirer) ≡ true = sym c.tables_ok-tables.ensures ∙ c.if-not-tables.false in
-    let sound : Sound (let a = c.args in terms a.site.now a.acquirer.now a.hot.now a.digits) = let t = (let a = c.args in terms a.site.now a.acquirer.now a.hot.now a.digits) in
-    let w = both_true (table_ok t.site) (table_ok t.acquirer) tables_passed in
-    record { site_right = w.0; acquirer_right = w.1; hot_right = sym c.list_ok.ensures ∙ c.if-not-list_ok.false } in
-    let room = sym c.is_full.ensures ∙ c.if-is_full.false in
-    seen _ _ _ c.newest_of.ensures c.in-Is.is
-    (all_passed _ _ _ _ _ sound c.if-amount-eq0.false date_passed c.if-b.false room)
+pub returns : goal.returns
+returns c =
+    let p = goal.at.returns c in
+    seen _ _ _ c.newest_of.ensures c.in-Some.is
+    (all_passed _ _ _ _ _ (sound p.Else-not-list_ok) c.if-amount-eq0.false (date p.Else-not-is_real) c.if-b.false (sym c.is_full.ensures ∙ c.if-is_full.false))

@@ -1,5 +1,5 @@
 use Prim.Native.Nat.{ℕ, ◌≤◌, ◌<◌, ◌+◌, ◌*◌, ◌-◌, ◌^◌}
-use mathlib.Core.Path.{◌≡◌, refl, sym, ap, ◌∙◌}
+use mathlib.Core.Path.{◌≡◌, sym, ap, ◌∙◌}
 use mathlib.Core.Bool.{true}
 use mathlib.Core.List.{List}
 use native.Mathlib.Omega.{arith}
@@ -17,35 +17,32 @@ room : (s : List ℕ) (v i : ℕ) → length s ≤ 19 → i < length s → v < 1
 room s v i h l b = let p : 10 ^ i ≤ 10 ^ 18 = pow-le-pow_right {n = 10} (omega arith) {i = i} {j = 18} (omega arith) in omega arith
 
 turn : (s : List ℕ) (v i d : ℕ) → all_digits s ≡ true → i < length s → decimal_after v (drop i s) ≡ decimal s → v < 10 ^ i → d ≡ get_or s i 0 - 48
-    → (i + 1 ≤ length s) × (decimal_after (10 * v + d) (drop (i + 1) s) ≡ decimal s) × (10 * v + d < 10 ^ (i + 1))
+    → (decimal_after (10 * v + d) (drop (i + 1) s) ≡ decimal s) × (10 * v + d < 10 ^ (i + 1))
 turn s v i d a h e b f =
     let k = digit_small (get_or s i 0) (every_at is_digit s i a h) in
     let q : 10 ^ (i + 1) ≡ 10 ^ i * 10 = ap (λ (n : ℕ). 10 ^ n) (add-one i) ∙ pow-suc 10 i in (
-      omega arith,
       (λ j. decimal_after (10 * v + f j) (drop (add-one i j) s)) ∙ sym (decimal_turn s v i h) ∙ e,
       omega arith,
     )
 
-pub loop-i-init : goal.loop-i-init
-loop-i-init c = (omega arith, refl, omega arith)
-
 pub overflow_mul-v : goal.overflow_mul-v
-overflow_mul-v c = let s = c.args.s.now in let l = c.loop-i in let b = room s l.v l.i c.requires.s_len_bound (omega arith) l.invariant.2 in omega arith
+overflow_mul-v c =
+    let l = c.loop-b in
+    let b = room c.args.s.now l.v l.b-index c.requires.s_len_bound (omega arith) l.invariant.1 in
+    omega arith
 
 pub overflow_add-v : goal.overflow_add-v
 overflow_add-v c =
-    let l = c.loop-i in
-    let b = room c.args.s.now l.v l.i c.requires.s_len_bound (omega arith) l.invariant.2 in
+    let l = c.loop-b in
+    let b = room c.args.s.now l.v l.b-index c.requires.s_len_bound (omega arith) l.invariant.1 in
     omega arith
 
-pub loop-i-preserved : goal.loop-i-preserved
-loop-i-preserved c =
-    let s = c.args.s.now in
-    let i = c.loop-i.i in
-    let v = c.loop-i.v in
-    turn s v i c.digit_value.result c.requires.s_value (omega arith) c.loop-i.invariant.1 c.loop-i.invariant.2 c.digit_value.ensures.0
+pub loop-b-preserved : goal.loop-b-preserved
+loop-b-preserved c =
+    let l = c.loop-b in
+    turn c.args.s.now l.v l.b-index c.digit_value.result c.requires.s_value (omega arith) l.invariant.0 l.invariant.1 c.digit_value.ensures.0
 
 pub returns : goal.returns
 returns c =
-    let l = c.loop-i in
-    sym (decimal_end c.args.s.now l.v l.i (omega arith)) ∙ l.invariant.1
+    let l = c.loop-b in
+    sym (decimal_end c.args.s.now l.v l.b-index (omega arith)) ∙ l.invariant.0

@@ -1,6 +1,4 @@
-use mathlib.Core.Path.{sym, ap, ◌∙◌}
 use native.Mathlib.Omega.{arith}
-use Rattle.held.specs.Rules.{said_shown}
 use Rattle.walker.proofs.Held.{next-none, next_last, next_held, next-not, given_here, refused_here}
 use Rattle.walker.proofs.next_of.Goals as goal
 
@@ -10,8 +8,8 @@ returns-then-s-eq0 c = next-none _ _ c.if-s-eq0.true
 pub returns-then-s-eq4294967295 : goal.returns-then-s-eq4294967295
 returns-then-s-eq4294967295 c = next_last _ _ c.if-s-eq4294967295.true
 
-pub returns-in-At : goal.returns-in-At
-returns-in-At c = next_held c.args.j.now c.args.s (omega arith) (omega (arith, c.if-s-eq4294967295.false)) (given_here _ _ _ (sym (ap said_shown c.in-At.is) ∙ c.find_held.ensures))
+pub returns-in-Ok : goal.returns-in-Ok
+returns-in-Ok c = next_held c.args.j.now c.args.s (omega arith) (omega (arith, c.if-s-eq4294967295.false)) (given_here _ _ _ c.in-Ok.ensures)
 
-pub returns-in-Refused : goal.returns-in-Refused
-returns-in-Refused c = next-not c.args.j.now c.args.s (omega arith) (omega (arith, c.if-s-eq4294967295.false)) (refused_here _ _ _ (sym (ap said_shown c.in-Refused.is) ∙ c.find_held.ensures))
+pub returns-in-Err : goal.returns-in-Err
+returns-in-Err c = next-not c.args.j.now c.args.s (omega arith) (omega (arith, c.if-s-eq4294967295.false)) (refused_here _ _ _ c.in-Err.ensures)

@@ -1,27 +1,24 @@
-use mathlib.Core.Path.{refl}
-use Rattle.slots.proofs.Views.{seen}
+use Rattle.std.proofs.Common.{Some, None, refl}
 use Rattle.walker.proofs.Steps.{walk_bad, walk-given}
 use Rattle.hands.proofs.Handed.{gave, kept}
-use Rattle.c_box.proofs.Walked.{is_formed}
 use Rattle.c_box.proofs.walks.journal_walk.Goals as goal
 
 pub first_above-s-requires : goal.first_above-s-requires
-first_above-s-requires c = is_formed c.args.journal.now _ _ c.newest_of.ensures c.in-Is.is
+first_above-s-requires c = c.in-Some.ensures
 
 pub place_or_zero-requires : goal.place_or_zero-requires
-place_or_zero-requires c =
-    let f = is_formed c.args.journal.now _ _ c.newest_of.ensures c.in-Is.is in
-    (f.least, f.most)
+place_or_zero-requires c = (c.in-Some.ensures.least, c.in-Some.ensures.most)
 
-pub returns-in-Malformed : goal.returns-in-Malformed
-returns-in-Malformed c =
+pub returns-in-None : goal.returns-in-None
+returns-in-None c =
     let a = c.args in
-    let j = a.journal.now in
-    seen j _ _ c.newest_of.ensures c.in-Malformed.is (kept _ _ _ _ _ refl (walk_bad j a.above))
+    record { view = None; is = c.in-None.ensures; so = kept _ _ _ _ _ refl (walk_bad a.journal.now a.above) }
 
-pub returns-in-Is : goal.returns-in-Is
-returns-in-Is c =
+pub returns-in-Some : goal.returns-in-Some
+returns-in-Some c =
     let a = c.args in
-    let j = a.journal.now in
-    seen j _ _ c.newest_of.ensures c.in-Is.is
-    (gave _ _ _ _ (walk-given j _ a.above _ _ c.first_above-s.ensures c.place_or_zero.ensures))
+    record {
+      view = Some _;
+      is = c.in-Some.ensures;
+      so = gave _ _ _ _ (walk-given a.journal.now _ a.above _ _ c.first_above-s.ensures c.place_or_zero.ensures);
+    }

@@ -1,40 +1,27 @@
--- `list_ok` goes through the list's tests.
+-- `list_ok`: the list's last number tells of all.
 use mathlib.Core.Path.{◌≡◌, sym, ◌∙◌}
 use mathlib.Core.Bool.{true}
 use native.Mathlib.Omega.{arith}
-use Rattle.text.proofs.Tests.{under, over, inside}
+use Rattle.text.proofs.Tests.{inside}
 use Rattle.pan.specs.Pan.{pan_length}
 use Rattle.hotlist.specs.Hotlist.{rises}
-use Rattle.hotlist.proofs.Steps.{too_long, bad_length, not_rising, nothing_listed, by_last}
+use Rattle.hotlist.proofs.Steps.{nothing_listed, by_last}
+use Rattle.hotlist.proofs.inner.list_ok.Goals.{Else-digits-gt19, Else-not-rises}
 use Rattle.hotlist.proofs.inner.list_ok.Goals as goal
 
-pub returns-then-count-gt8192 : goal.returns-then-count-gt8192
-returns-then-count-gt8192 c = sym (too_long _ _ c.if-count-gt8192.true)
+counted : (c : Else-digits-gt19) → pan_length c.args.digits ≡ true
+counted c = inside 13 19 _ c.if-digits-lt13.false c.if-digits-gt19.false
 
-pub returns-then-digits-lt13 : goal.returns-then-digits-lt13
-returns-then-digits-lt13 c = sym (bad_length _ _ c.if-count-gt8192.false (under 13 19 _ c.if-digits-lt13.true))
+rising : (c : Else-not-rises) → rises c.args.list.now ≡ true
+rising c = sym c.rises.ensures ∙ c.if-not-rises.false
 
-pub returns-then-digits-gt19 : goal.returns-then-digits-gt19
-returns-then-digits-gt19 c = sym (bad_length _ _ c.if-count-gt8192.false (over 13 19 _ c.if-digits-gt19.true))
+pub returns-in-None : goal.returns-in-None
+returns-in-None c =
+    let p = goal.at.returns-in-None c in
+    sym (nothing_listed _ _ c.if-list-gt8192.false (counted p.Else-digits-gt19) (rising p.Else-not-rises) (omega (arith, c.in-None.ensures.item)))
 
-pub returns-then-not-rises : goal.returns-then-not-rises
-returns-then-not-rises c =
-    let counted : pan_length c.args.digits ≡ true = inside 13 19 _ c.if-digits-lt13.false c.if-digits-gt19.false in
-    sym (not_rising _ _ c.if-count-gt8192.false counted (sym c.rises.ensures ∙ c.if-not-rises.true))
-
-pub returns-then-count-eq0 : goal.returns-then-count-eq0
-returns-then-count-eq0 c =
-    let rising : rises c.args.list.now ≡ true = sym c.rises.ensures ∙ c.if-not-rises.false in
-    let counted : pan_length c.args.digits ≡ true = inside 13 19 _ c.if-digits-lt13.false c.if-digits-gt19.false in
-    sym (nothing_listed _ _ c.if-count-gt8192.false counted rising c.if-count-eq0.true)
-
-pub too_large-requires : goal.too_large-requires
-too_large-requires c =
-    let counted : pan_length c.args.digits ≡ true = inside 13 19 _ c.if-digits-lt13.false c.if-digits-gt19.false in
-    counted
-
-pub returns : goal.returns
-returns c =
-    let rising : rises c.args.list.now ≡ true = sym c.rises.ensures ∙ c.if-not-rises.false in
-    let counted : pan_length c.args.digits ≡ true = inside 13 19 _ c.if-digits-lt13.false c.if-digits-gt19.false in
-    by_last _ _ c.if-count-gt8192.false counted rising _ c.too_large.ensures (omega (arith, c.if-count-eq0.false))
+pub returns-in-Some : goal.returns-in-Some
+returns-in-Some c =
+    let p = goal.at.returns-in-Some c in
+    let there = c.in-Some.ensures.item.3 in
+    by_last _ _ c.if-list-gt8192.false (counted p.Else-digits-gt19) (rising p.Else-not-rises) _ _ (there.1 0) c.pow.ensures there.0

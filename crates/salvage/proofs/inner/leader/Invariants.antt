@@ -1,11 +1,6 @@
-use Prim.Native.Nat.{ℕ, ◌≤◌, ◌-◌}
-use mathlib.Core.Path.{◌≡◌}
-use lib.ListN.{get_or}
+use Rattle.std.proofs.Common.{◌≡◌, ℕ, length, get_or}
 use Rattle.salvage.specs.Whole.{leader}
 use Rattle.salvage.proofs.inner.leader.Given as goal
 
-abbrev pub decreases-loop-k : goal.decreases-loop-k
-decreases-loop-k l = l.n - l.k
-
-abbrev pub invariant-loop-k : goal.invariant-loop-k
-invariant-loop-k l = (l.k ≤ l.n) × (l.best ≡ leader (λ (i : ℕ). get_or l.serials i 0) l.n l.k)
+abbrev pub invariant-loop-s : goal.invariant-loop-s
+invariant-loop-s l = l.best ≡ leader (λ (k : ℕ). get_or l.serials k 0) (length l.serials) l.s-index

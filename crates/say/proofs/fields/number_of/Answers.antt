@@ -2,5 +2,5 @@
 use Rattle.numerals.proofs.Laws.{number_fits}
 use Rattle.say.proofs.fields.number_of.Goals as goal
 
-pub returns-in-Is : goal.returns-in-Is
-returns-in-Is c = number_fits _ _ _ _ c.number_in.ensures c.in-Is.is
+pub returns-in-Ok : goal.returns-in-Ok
+returns-in-Ok c = number_fits _ _ _ _ c.number_in.ensures c.in-Ok.is
