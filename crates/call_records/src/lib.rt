@@ -50,17 +50,19 @@ fn put_number(room: &mut [u8; 128], at: usize, n: u32)
 }
 
 impl Record<'_> {
-    // The record's bytes. A PAN has 16 digits, and label 7.
-    fn written(self) -> [u8; 128] {
+    // The record's bytes; none where a stripe's don't fit. A PAN has 16 digits, and label 7.
+    fn written(self) -> Option<[u8; 128]> {
+        if 108 < self.bytes.len() {
+            return None;
+        }
         let mut room = [0u8; 128];
         text::put_at(&mut room, 0, &[self.kind as u8, 16, 7, 0]);
         put_number(&mut room, 4, self.amount);
         put_number(&mut room, 8, self.clock);
         put_number(&mut room, 12, self.serial);
         put_number(&mut room, 16, self.place);
-        let n = self.bytes.len().min(108);
-        text::put_at(&mut room, 20, &self.bytes[..n]);
-        room
+        text::put_at(&mut room, 20, self.bytes);
+        Some(room)
     }
 }
 
@@ -125,10 +127,13 @@ impl<const N: usize> Script<N> {
 
     // Puts a record behind the others, where there is room.
     fn put(&mut self, record: Record<'_>) {
+        let Some(bytes) = record.written() else {
+            return;
+        };
         if self.bytes.len() - self.length < 128 {
             return;
         }
-        text::put_at(&mut self.bytes, self.length, &record.written());
+        text::put_at(&mut self.bytes, self.length, &bytes);
         self.length += 128;
     }
 

@@ -92,21 +92,21 @@ three_kinds (p ∷ q ∷ []) h = refl
 three_kinds (p ∷ q ∷ r ∷ []) h = refl
 three_kinds (p ∷ q ∷ r ∷ o ∷ runs) h = absurd (omega arith)
 
--- what the code tests of the row that it found is what the rule says
-pub row_fits : (x y : ℕ) (r : Row) (s : List ℕ) → option_map stored (row_of table x y) ≡ Some r
-    → (is_some (row_of table x y) ≡ true) × (fits (kinds_of r.runs) s ≡ fits (kinds_of (runs_in (row_of table x y))) s)
-row_fits x y r s = go (row_of table x y) (few_runs_lem x y)
+-- what the code finds of two letters, a row or none, says what the rule says: whether such a country is listed, and which bodies fit it
+pub row_fits : (x y : ℕ) (o : Option Row) (s : List ℕ) → o ≡ option_map stored (row_of table x y)
+    → (is_some o ≡ is_some (row_of table x y)) × (fits (kinds_of (runs_in o)) s ≡ fits (kinds_of (runs_in (row_of table x y))) s)
+row_fits x y o s = go (row_of table x y) (few_runs_lem x y)
   where
-    go : (o : Option Row) → length (runs_in o) ≤ 3 → option_map stored o ≡ Some r → (is_some o ≡ true) × (fits (kinds_of r.runs) s ≡ fits (kinds_of (runs_in o)) s)
-    go None h e = cc
-    go (Some w) h e =
-        let k : stored w ≡ r = cc in
-        (refl, ap (λ (q : Row). fits (kinds_of q.runs) s) (sym k) ∙ ap (λ (ks : List Kind). fits ks s) (three_kinds w.runs h))
+    go : (p : Option Row) → length (runs_in p) ≤ 3 → o ≡ option_map stored p
+        → (is_some o ≡ is_some p) × (fits (kinds_of (runs_in o)) s ≡ fits (kinds_of (runs_in p)) s)
+    go None h e = rw e (refl, refl)
+    go (Some w) h e = rw e (refl, ap (λ (ks : List Kind). fits ks s) (three_kinds w.runs h))
+
+-- so of a row that it found
+pub found_fits : (x y : ℕ) (r : Row) (s : List ℕ) → option_map stored (row_of table x y) ≡ Some r
+    → (is_some (row_of table x y) ≡ true) × (fits (kinds_of r.runs) s ≡ fits (kinds_of (runs_in (row_of table x y))) s)
+found_fits x y r s e = let w = row_fits x y (Some r) s (sym e) in (sym w.0, w.1)
 
 -- and where it finds none the country isn't listed
 pub none_listed : (x y : ℕ) → option_map stored (row_of table x y) ≡ None → is_some (row_of table x y) ≡ false
-none_listed x y = go (row_of table x y)
-  where
-    go : (o : Option Row) → option_map stored o ≡ None → is_some o ≡ false
-    go None e = refl
-    go (Some w) e = cc
+none_listed x y e = sym (row_fits x y None [] (sym e)).0

@@ -1,8 +1,24 @@
 // For the crates above: the list's check, and the search in a list that passed it.
-ghost use Rattle.std.specs.Prelude.{◌≡◌, true, ◌≤◌, length};
+ghost use Rattle.std.specs.Prelude.{◌≡◌, true, ◌^◌, ◌≤◌, length};
 ghost use Rattle.text.specs.Bytes.{all_digits};
 ghost use Rattle.pan.specs.Pan.{pan_length};
 ghost use Rattle.hotlist.specs.Hotlist.{rises, list_ok, stands, listed};
+
+// The least number that is too large for so many digits.
+fn too_large(digits: u32) -> u64
+    requires { pan_length digits ≡ true }
+    ensures { result ≡ 10 ^ digits }
+{
+    match digits {
+        13 => 10000000000000,
+        14 => 100000000000000,
+        15 => 1000000000000000,
+        16 => 10000000000000000,
+        17 => 100000000000000000,
+        18 => 1000000000000000000,
+        _ => 10000000000000000000,
+    }
+}
 
 // Whether each number is below the next. Looks at every number, with no way out in between, as text::all_digits does.
 fn rises(list: &[u64]) -> bool
@@ -35,7 +51,7 @@ pub fn list_ok(list: &[u64], digits: u32) -> bool
     }
     match list.last() {
         None => true,
-        Some(&last) => last < 10u64.pow(digits),
+        Some(&last) => last < too_large(digits),
     }
 }
 

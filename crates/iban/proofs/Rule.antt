@@ -10,7 +10,7 @@ use lib.Seq.{take_all}
 use Rattle.text.specs.Bytes.{within}
 use Rattle.mod97.proofs.Standard.{Answers, Standard}
 use Rattle.countries.specs.Countries.{listed, runs_of, kinds_of, fits}
-use Rattle.countries.proofs.Fits.{row_fits, none_listed}
+use Rattle.countries.proofs.Fits.{found_fits, none_listed}
 use Rattle.iban.specs.Iban.{is_allowed, all_allowed, laid_out}
 
 abbrev pub standard : Standard
@@ -29,4 +29,4 @@ pub behind_four : (s : List ℕ) → take (length s - 4) (drop 4 s) ≡ drop 4 s
 behind_four s = take_all (length s - 4) (drop 4 s) (omega (arith, length-drop 4 s))
 
 -- what the code's row says of a country, and of a body
-pub ruleset row_laws = (row_fits, none_listed, behind_four)
+pub ruleset row_laws = (found_fits, none_listed, behind_four)

@@ -91,7 +91,7 @@ fn free(j: &mut [u8], n: usize, low: u32, top: u32)
     ensures { j.new ≡ freed_after j.old n low (top - low) }
 {
     let mut at = slots::place_of(n, low + 1);
-    for _s in low..top {
+    for _k in 0..top - low {
         free_one(j, at);
         at = slots::onward(n, at);
     }

@@ -14,15 +14,15 @@ pub enum Line {
 }
 
 impl Line {
-    // The line with a byte more; one that is full keeps no more.
-    fn with(self, b: u8, room: &mut [u8]) -> Line
+    // The line with these bytes more; one that they don't fit into keeps no more.
+    fn with(self, more: &[u8], room: &mut [u8]) -> Line
         requires { Within room.old self }
         ensures { Within room.new result }
     {
         match self {
-            Line::Taken(n) if n < room.len() => {
-                room[n] = b;
-                Line::Taken(n + 1)
+            Line::Taken(n) if more.len() <= room.len() - n => {
+                room[n..n + more.len()].copy_from_slice(more);
+                Line::Taken(n + more.len())
             }
             _ => Line::TooLong,
         }
@@ -64,27 +64,24 @@ impl Lines {
         n
     }
 
-    // The next byte; none where the input has ended.
-    fn byte(&mut self) -> Option<u8> {
-        if self.at == self.end && self.refill() == 0 {
-            return None;
-        }
-        let b = self.input[self.at];
-        self.at += 1;
-        Some(b)
-    }
-
-    // The next line into the front of a buffer, without the byte that ends it; none where the input has ended. No run uses up the steps.
+    // The next line into the front of a buffer, without the byte that ends it; none where the input has ended. What was read is taken as far
+    // as the line goes, at once. No run uses up the steps.
     pub fn next(&mut self, room: &mut [u8]) -> Option<Line>
         ensures { IfSome result (Within room.new) }
     {
         let mut line = Line::Taken(0);
         for _ in 0..u64::MAX {
-            match self.byte() {
-                Some(b'\n') => return Some(line),
-                Some(b) => line = line.with(b, room),
-                None => break,
+            if self.at == self.end && self.refill() == 0 {
+                break;
             }
+            let waiting = &self.input[self.at..self.end];
+            if let Some(n) = waiting.iter().position(|b| *b == b'\n') {
+                line = line.with(&waiting[..n], room);
+                self.at += n + 1;
+                return Some(line);
+            }
+            line = line.with(waiting, room);
+            self.at = self.end;
         }
         if line == Line::Taken(0) {
             return None;

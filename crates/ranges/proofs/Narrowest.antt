@@ -1,18 +1,14 @@
 -- The best of a table's records: what it is, and what a search for it keeps.
 use Prim.Native.Nat.{ℕ, zero, suc, ◌+◌, ◌*◌, ◌/◌, ◌%◌, ◌<◌, ◌≤◌}
-use mathlib.Core.Path.{◌≡◌, refl, sym, ap, ◌∙◌, subst}
+use mathlib.Core.Path.{◌≡◌, refl, sym, ◌∙◌, subst}
 use mathlib.Core.Bool.{Bool, true, false, true≢false}
 use mathlib.Core.List.{List}
-use Rattle.std.specs.Prelude.{Option, Some, None, IsTrue}
-use Rattle.std.specs.Option.{MatchOption, IsSomeAnd}
-use Rattle.std.proofs.lemmas.Option.{MatchOption-at_none, MatchOption-at_some}
-use lib.Dec.{ltb}
+use Rattle.std.specs.Prelude.{Option, Some, None}
 use native.Mathlib.Omega.{arith}
 use native.Mathlib.Decide.{dec_lt}
 use borrow.Author.Tests.{lt-ltb, le-ltb}
 use lib.ListN.{length}
-use Rattle.ranges.specs.declared.inner.Fitting.{Fitting}
-use Rattle.ranges.specs.Ranges.{fits, width, narrower, better, best_of, choice}
+use Rattle.ranges.specs.Ranges.{fits, width, better, best_of, choice}
 
 -- of a table's first m records the one at a fits, no fitting one is narrower, and the fitting ones before it are wider
 pub record NarrowestOf (t : List ℕ) (p n m a : ℕ) : Type 0 where
@@ -118,39 +114,35 @@ module _ (t : List ℕ) (p n : ℕ) where
   unfolding choice
   chosen_none e = the_none (subst (Best t p n (length t / 16)) e (best_of_lem (length t / 16)))
 
--- a record that fits, as a search keeps it
-abbrev pub fitting : List ℕ → ℕ → Fitting
-fitting t at = record { at = at; width = width t at }
+-- what a search keeps of the records before its place: where the best of them begins and how wide it is; before there is one, more than
+-- any width
+pub data Kept (t : List ℕ) (b w : ℕ) : Option ℕ → Type 0 where
+  nothing_yet : 4294967296 ≤ w → Kept t b w None
+  this_one : w < 4294967296 → w ≡ width t b → Kept t b w (Some b)
 
--- what a search keeps of the records before its place: the best of them
-abbrev pub kept : List ℕ → Option ℕ → Option Fitting
-kept t None = None
-kept t (Some at) = Some (fitting t at)
-
+-- one turn: the record doesn't fit, is narrower, or isn't
 module _ (t : List ℕ) (p n at : ℕ) where
-  -- one turn: the record doesn't fit,
-  pub kept_on : (o : Option ℕ) → fits t at p n ≡ false → kept t o ≡ kept t (better t p n at o)
-  kept_on o f = rw f
+  pub kept_on : {b w : ℕ} {o : Option ℕ} → Kept t b w o → fits t at p n ≡ false → Kept t b w (better t p n at o)
+  kept_on h f = rw f h
 
-  -- or it fits, and is narrower or isn't
-  pub kept_new : (o : Option ℕ) → fits t at p n ≡ true → narrower t at o ≡ true → Some (fitting t at) ≡ kept t (better t p n at o)
-  kept_new o f g = rw (f, g)
+  pub kept_new : {b w : ℕ} {o : Option ℕ} → Kept t b w o → fits t at p n ≡ true → width t at < 4294967296 → width t at < w
+      → Kept t at (width t at) (better t p n at o)
+  kept_new (nothing_yet h) f l g = rw f (this_one l refl)
+  kept_new (this_one h i) f l g = let v = lt-ltb _ _ (rw i at g) in rw (f, v) (this_one l refl)
 
-  pub kept_old : (o : Option ℕ) → fits t at p n ≡ true → narrower t at o ≡ false → kept t o ≡ kept t (better t p n at o)
-  kept_old o f g = rw (f, g)
+  pub kept_old : {b w : ℕ} {o : Option ℕ} → Kept t b w o → fits t at p n ≡ true → width t at < 4294967296 → w ≤ width t at
+      → Kept t b w (better t p n at o)
+  kept_old (nothing_yet h) f l g = absurd (omega arith)
+  kept_old (this_one h i) f l g = let v = le-ltb _ _ (rw i at g) in rw (f, v) (this_one h i)
 
--- what `is_none_or` and `map` say of what is kept
-module _ (t : List ℕ) where
-  pub narrower_told : {P : Fitting → Type 0} (at w : ℕ) (o : Option ℕ) (best : Option Fitting) (r : Bool) → w ≡ width t at → best ≡ kept t o
-      → MatchOption best (IsTrue r) P → ((b : Fitting) → P b → r ≡ ltb w b.width) → r ≡ narrower t at o
-  narrower_told at w None best r i e h f = MatchOption-at_none _ _ e h
-  narrower_told at w (Some b) best r i e h f = f (fitting t b) (MatchOption-at_some _ _ _ e h) ∙ ap (λ (n : ℕ). ltb n (width t b)) i
+pub kept_as : {t : List ℕ} {b c w v : ℕ} {o q : Option ℕ} → Kept t b w o → o ≡ q → c ≡ b → v ≡ w → Kept t c v q
+kept_as {t} h f g i = rw (g, i, sym f) h
 
-  pub place_told : {Q : Fitting → ℕ → Type 0} (o : Option ℕ) (best : Option Fitting) (r : Option ℕ) → best ≡ kept t o
-      → MatchOption best (r ≡ None) (λ b. IsSomeAnd r (Q b)) → ((b : Fitting) (at : ℕ) → Q b at → at ≡ b.at) → r ≡ o
-  place_told None best r e h f = MatchOption-at_none _ _ e h
-  place_told {Q} (Some b) best r e h f = by r (MatchOption-at_some _ _ _ e h)
-    where
-      by : (r : Option ℕ) → IsSomeAnd r (Q (fitting t b)) → r ≡ Some b
-      by None g = absurd g
-      by (Some at) g = ap Some (f (fitting t b) at g)
+-- what is kept says what is chosen
+pub kept_is : {t : List ℕ} {b w : ℕ} {o : Option ℕ} → Kept t b w o → w < 4294967296 → Some b ≡ o
+kept_is (nothing_yet h) l = absurd (omega arith)
+kept_is (this_one h i) l = refl
+
+pub kept-none : {t : List ℕ} {b w : ℕ} {o : Option ℕ} → Kept t b w o → 4294967296 ≤ w → None ≡ o
+kept-none (nothing_yet h) l = refl
+kept-none (this_one h i) l = absurd (omega arith)

@@ -48,29 +48,25 @@ fn width_at(t: &[u8], at: usize) -> u32
     text::u32_at(t, at + 4) - text::u32_at(t, at)
 }
 
-// A record that fits: where it begins, and how wide it is.
-#[derive(Clone, Copy)]
-struct Fitting {
-    at: usize,
-    width: u32,
-}
-
-// The choice within a table for a PAN of n digits whose first eight are p, in one pass that keeps the best so far.
+// The choice within a table for a PAN of n digits whose first eight are p, in one pass that keeps where the best so far begins and how
+// wide it is. Before there is one the width is more than any, so that one comparison decides about a record that fits.
 fn choose(t: &[u8], p: u32, n: u8) -> Option<usize>
     requires { table_ok t.now ≡ true }
     ensures { result ≡ choice t.now p n }
 {
-    let mut best: Option<Fitting> = None;
+    let mut best = 0;
+    let mut width: u64 = 4294967296;
     for k in 0..t.len() / 16 {
         let at = 16 * k;
         if fits(t, at, p, n) {
-            let width = width_at(t, at);
-            if best.is_none_or(|b| width < b.width) {
-                best = Some(Fitting { at, width });
+            let w = width_at(t, at) as u64;
+            if w < width {
+                best = at;
+                width = w;
             }
         }
     }
-    best.map(|b| b.at)
+    if width < 4294967296 { Some(best) } else { None }
 }
 
 // Where the record of a PAN stands, in tables that passed.

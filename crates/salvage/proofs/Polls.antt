@@ -2,7 +2,6 @@
 use Prim.Native.Nat.{ℕ, zero, suc, ◌≤◌, ◌<◌, ◌+◌, ◌-◌}
 use mathlib.Core.Path.{◌≡◌, refl, sym, ap, ◌∙◌, subst}
 use mathlib.Core.Bool.{Bool, true, false, cond, ◌&&◌, ◌||◌}
-use mathlib.Core.List.{List}
 use native.Mathlib.Omega.{arith}
 use native.Mathlib.Numerals.{add-one}
 use native.Mathlib.Decide.{dec_lt}
@@ -11,27 +10,24 @@ use borrow.Author.Tests.{ltb-true, leb-true, lt-ltb, le-leb}
 use lib.Dec.{eqb, ltb, leb}
 use Rattle.text.proofs.Tests.{both_true}
 use Rattle.salvage.proofs.Rule.{preferred_more, preferred_fewer, lower_none, lower_first, lower_new, lower_old}
-use Rattle.std.proofs.Common.{length, get_or, take, count_by}
-use Rattle.std.proofs.lemmas.List.Sums.{count_by_more_yes, count_by_more_no}
-use Rattle.std.proofs.lemmas.List.{take_all}
 use Rattle.salvage.specs.Whole.{agrees, votes, poll_of, preferred, leader, lower, lowest}
 use Rattle.salvage.specs.declared.inner.Poll.{Poll}
 
 -- ---- one turn of each walk
 
--- the votes of the slots whose serials are s are counted
-pub votes_counted : (n b : ℕ) (s : List ℕ) (m : ℕ) → m ≤ length s → votes (λ k. get_or s k 0) n b m ≡ count_by (λ x. agrees n b x) (take m s)
-unfolding votes
-votes_counted n b s zero h = refl
-votes_counted n b s (suc m) h = go (votes_counted n b s m (omega arith)) (agrees n b (get_or s m 0)) refl
-  where
-    go : votes (λ k. get_or s k 0) n b m ≡ count_by (λ x. agrees n b x) (take m s) → (t : Bool) → agrees n b (get_or s m 0) ≡ t
-        → votes (λ k. get_or s k 0) n b m + cond t 1 0 ≡ count_by (λ x. agrees n b x) (take (suc m) s)
-    go so_far true e = omega (arith, rw add-one at (count_by_more_yes (λ x. agrees n b x) s m 0 (omega arith) e))
-    go so_far false e = omega (arith, rw add-one at (count_by_more_no (λ x. agrees n b x) s m 0 (omega arith) e))
+module _ (f : ℕ → ℕ) (n b : ℕ) where
+  pub votes_none : 0 ≡ votes f n b 0
+  unfolding votes
+  votes_none = refl
 
-pub votes_of : (n b : ℕ) (s : List ℕ) → votes (λ k. get_or s k 0) n b (length s) ≡ count_by (λ x. agrees n b x) s
-votes_of n b s = votes_counted n b s (length s) (omega arith) ∙ ap (count_by (λ x. agrees n b x)) (take_all (length s) s (omega arith))
+  -- a slot agrees, or doesn't
+  pub votes_yes : (m c d : ℕ) → agrees n b (f m) ≡ true → c ≡ votes f n b m → d ≡ c + 1 → d ≡ votes f n b (m + 1)
+  unfolding votes
+  votes_yes m c d e h g = rw (add-one, e) (omega (arith, h, g))
+
+  pub votes_no : (m c d : ℕ) → agrees n b (f m) ≡ false → c ≡ votes f n b m → d ≡ c → d ≡ votes f n b (m + 1)
+  unfolding votes
+  votes_no m c d e h g = rw (add-one, e) (omega (arith, h, g))
 
 module _ (f : ℕ → ℕ) (n b : ℕ) where
   pub lowest_none : 0 ≡ lowest f n b 0

@@ -54,7 +54,13 @@ fn votes(serials: &[u32], b: u32) -> usize
     ensures { result ≡ votes (λ (k : ℕ). get_or serials.now k 0) (length serials.now) b (length serials.now) }
 {
     let n = serials.len();
-    serials.iter().filter(|s| agrees(n, b, **s)).count()
+    let mut count = 0;
+    for &s in serials {
+        if agrees(n, b, s) {
+            count += 1;
+        }
+    }
+    count
 }
 
 // A serial, and how many slots agree with it.

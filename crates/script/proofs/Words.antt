@@ -8,7 +8,6 @@ use native.Mathlib.Omega.{arith}
 use native.Mathlib.Numerals.{add-one}
 use lib.Dec.{eqb}
 use lib.ListN.{length, take, drop, get_or, drop_of_length-le}
-use lib.Pointwise.{pointwise}
 use lib.Seq.{drop-cons, drop-drop}
 use Rattle.std.specs.Prelude.{count_by}
 use Rattle.std.proofs.lemmas.List.Recursion.{is_count_by}
@@ -143,13 +142,27 @@ unfolding same
 same_self [] = refl
 same_self (a ∷ s) = rw (eq-eqb a a refl) (same_self s)
 
--- so it is the library's equality of lists
-pub same_pointwise : (s t : List ℕ) → pointwise eqb s t ≡ same s t
+-- texts of other lengths aren't
+pub same_apart : (s t : List ℕ) → (length s ≡ length t → ⊥) → same s t ≡ false
+same_apart s t h = by (same s t) refl
+  where
+    by : (b : Bool) → same s t ≡ b → b ≡ false
+    by true e = absurd (h (same_length s t e))
+    by false e = refl
+
+-- bytes at one place tell about the rests from there
+module _ (s t : List ℕ) (i : ℕ) (hs : i < length s) (ht : i < length t) where
+  pub same_turn : get_or s i 0 ≡ get_or t i 0 → same (drop i s) (drop i t) ≡ same (drop (suc i) s) (drop (suc i) t)
+  unfolding same
+  same_turn e = rw (drop-cons s i 0 hs, drop-cons t i 0 ht, eq-eqb (get_or s i 0) (get_or t i 0) e)
+
+  pub same_stop : (get_or s i 0 ≡ get_or t i 0 → ⊥) → same (drop i s) (drop i t) ≡ false
+  unfolding same
+  same_stop e = rw (drop-cons s i 0 hs, drop-cons t i 0 ht, ne_eqb (get_or s i 0) (get_or t i 0) e)
+
+pub same_end : (s t : List ℕ) (i : ℕ) → length s ≤ i → length t ≤ i → same (drop i s) (drop i t) ≡ true
 unfolding same
-same_pointwise [] [] = refl
-same_pointwise [] (b ∷ t) = refl
-same_pointwise (a ∷ s) [] = refl
-same_pointwise (a ∷ s) (b ∷ t) = ap (λ (e : Bool). eqb a b && e) (same_pointwise s t)
+same_end s t i h k = rw (drop_of_length-le s h, drop_of_length-le t k)
 
 -- `-` alone stands for the empty text
 pub plain_is : (s : List ℕ) → plain s ≡ cond (same s (45 ∷ [])) [] s

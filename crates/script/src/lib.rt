@@ -153,9 +153,16 @@ pub fn solid(s: &[u8], room: &mut [u8]) -> usize
 }
 
 // Whether two texts are the same.
-#[tactic(auto, using(crate::proofs::Words::same_pointwise))]
 pub fn is_same(a: &[u8], b: &[u8]) -> bool
     ensures { result ≡ same a.now b.now }
 {
-    a == b
+    if a.len() != b.len() {
+        return false;
+    }
+    for i in 0..a.len() {
+        if a[i] != b[i] {
+            return false;
+        }
+    }
+    true
 }

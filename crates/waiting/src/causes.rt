@@ -19,7 +19,9 @@ fn text_of(why: Error, room: &mut [u8]) -> usize
 }
 
 // The system's own words, the text before the number that ends it, as in `No such file or directory (os error 2)`.
-fn words_of(text: &[u8]) -> &[u8] {
+fn words_of(text: &[u8]) -> &[u8]
+    ensures { length result.now ≤ length text.now }
+{
     let number: &[u8] = b" (os error ";
     let start = text.windows(number.len()).position(|part| part == number);
     match start {

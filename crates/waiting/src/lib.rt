@@ -3,7 +3,7 @@
 
 pub mod causes;
 
-ghost use Rattle.std.specs.Prelude.{◌≡◌, ◌≤◌, length};
+ghost use Rattle.std.specs.Prelude.{◌≡◌, ◌≤◌, length, IfErr};
 
 use std::fmt;
 use std::io::{Error, ErrorKind, Print, Stderr, Stdin, Stdout};
@@ -24,7 +24,9 @@ struct Stopped<'a> {
 }
 
 // Writes to standard output.
-fn written(output: Stdout, s: &[u8]) -> Result<(), Stopped<'_>> {
+fn written(output: Stdout, s: &[u8]) -> Result<(), Stopped<'_>>
+    ensures { IfErr result (λ stopped. length stopped.rest.now ≤ length s.now) }
+{
     let mut rest = s;
     while !rest.is_empty() {
         match output.write_some(rest) {

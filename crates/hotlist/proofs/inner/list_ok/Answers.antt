@@ -20,8 +20,11 @@ returns-in-None c =
     let p = goal.at.returns-in-None c in
     sym (nothing_listed _ _ c.if-list-gt8192.false (counted p.Else-digits-gt19) (rising p.Else-not-rises) (omega (arith, c.in-None.ensures.item)))
 
+pub too_large-requires : goal.too_large-requires
+too_large-requires c = counted (goal.at.too_large-requires c).Else-digits-gt19
+
 pub returns-in-Some : goal.returns-in-Some
 returns-in-Some c =
     let p = goal.at.returns-in-Some c in
     let there = c.in-Some.ensures.item.3 in
-    by_last _ _ c.if-list-gt8192.false (counted p.Else-digits-gt19) (rising p.Else-not-rises) _ _ (there.1 0) c.pow.ensures there.0
+    by_last _ _ c.if-list-gt8192.false (counted p.Else-digits-gt19) (rising p.Else-not-rises) _ _ (there.1 0) c.too_large.ensures there.0
